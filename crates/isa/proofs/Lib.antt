@@ -1,0 +1,7 @@
+pub mod Tests
+pub mod Opcode
+pub mod Bytes
+pub mod Reading
+pub mod Writing
+pub mod Codec
+pub mod Clocks

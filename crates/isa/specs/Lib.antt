@@ -1,0 +1,5 @@
+pub mod Opcode
+pub mod Wait
+pub mod Reader
+pub mod Writer
+pub mod Codec

@@ -1,0 +1,19 @@
+// The instructions of the hardware sequencer on card families 1 to 4: their reader and writer.
+mod addresses;
+mod instructions;
+mod opcodes;
+mod reader;
+mod writer;
+
+pub use addresses::CodeAddress;
+pub use addresses::MmioAddress;
+pub use instructions::Instruction;
+pub use instructions::wait_clocks;
+pub use reader::Decoded;
+pub use reader::Unreadable;
+pub use reader::decode;
+pub use reader::unreadable_number;
+pub use writer::Encoded;
+pub use writer::Unwritable;
+pub use writer::encode;
+pub use writer::unwritable_number;

@@ -1,0 +1,10 @@
+//! The auditor and the replay.
+
+mod auditor;
+mod input;
+mod ranges;
+mod replay;
+
+pub use auditor::{audit, Fault, Pass};
+pub use ranges::{listed, MOST_RANGES};
+pub use replay::{replay, run, Ending, Replayed, Run, WRITE_ENTRIES};

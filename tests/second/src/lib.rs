@@ -1,0 +1,13 @@
+//! An independent reading of the sequencer papers: auditor, step machine, replay, probe gates and jobs.
+
+pub mod audit;
+mod fetch;
+pub mod isa;
+pub mod job;
+pub mod log;
+pub mod machine;
+pub mod probe;
+pub mod refusal;
+pub mod show;
+
+pub use refusal::Refusal;

@@ -1,0 +1,157 @@
+//! One step of one slot.
+
+use super::state::{Activity, Slot, State};
+use crate::fetch::fetch;
+use crate::isa::{self, wait_clocks, CodeAddress, Instruction, MmioAddress};
+use crate::log::{Log, Passed, Place};
+use crate::Refusal;
+
+/// Why a fetch stopped the slot.
+#[derive(Clone, Copy, Debug, PartialEq, Eq)]
+pub enum Stop {
+    PastCode,
+    NeverUploaded,
+}
+
+/// What a step did.
+#[derive(Clone, Copy, Debug, PartialEq, Eq)]
+pub enum Did {
+    /// The slot was idle, hung, blocked or in an unfinished wait.
+    Nothing,
+    Stopped(Stop),
+    UnknownOpcode,
+    /// A known instruction that wrote no register, a blocked poke included.
+    Done,
+    Wrote {
+        address: MmioAddress,
+        data: u32,
+    },
+}
+
+/// What a step did, the place after it and the clocks it spent.
+#[derive(Clone, Copy, Debug, PartialEq, Eq)]
+pub struct Step {
+    pub did: Did,
+    pub place: Place,
+    pub wait_clocks: u64,
+    pub ewait_clocks: u64,
+}
+
+/// One step, after the tests of family, log and place.
+pub fn step(
+    state: &mut State,
+    slot: Slot,
+    clocks: &[u64],
+    known: &[u32],
+    values: &[u32],
+    place: Place,
+) -> Result<Step, Refusal> {
+    isa::code_size(state.family)?;
+    let log = Log::new(clocks, known, values)?;
+    if !log.holds(place) {
+        return Err(Refusal::UnfitLog);
+    }
+    Ok(step_untested(state, slot, &log, place))
+}
+
+/// One step without those tests; on an unknown family it does nothing.
+pub fn step_untested(state: &mut State, slot: Slot, log: &Log, place: Place) -> Step {
+    let mut step = Step {
+        did: Did::Nothing,
+        place,
+        wait_clocks: 0,
+        ewait_clocks: 0,
+    };
+    let (Ok(size), Ok(true)) = (isa::code_size(state.family), state.executing(slot)) else {
+        return step;
+    };
+    if state.slot(slot).activity != Activity::Fetching {
+        return step;
+    }
+    let ip = state.slot(slot).ip;
+    match fetch(state.family, &state.code[..size], &state.marks[..size], ip) {
+        Ok((instruction, length)) => {
+            if instruction != Instruction::Exit {
+                state.slot_mut(slot).ip = CodeAddress(ip.0 + length as u32);
+            }
+            execute(state, slot, instruction, log, &mut step);
+        }
+        Err(Refusal::UnknownOpcode) => {
+            meet_unknown(state, slot);
+            step.did = Did::UnknownOpcode;
+        }
+        Err(Refusal::NeverUploaded) => step.did = Did::Stopped(Stop::NeverUploaded),
+        Err(_) => step.did = Did::Stopped(Stop::PastCode),
+    }
+    step
+}
+
+/// IP moves past the one byte, and two families hang.
+fn meet_unknown(state: &mut State, slot: Slot) {
+    let hangs = isa::unknown_hangs(state.family) == Ok(true);
+    let slot = state.slot_mut(slot);
+    slot.ip.0 += 1;
+    if hangs {
+        slot.activity = Activity::Hung;
+    }
+}
+
+/// The effect of an instruction, IP apart.
+fn execute(state: &mut State, slot: Slot, instruction: Instruction, log: &Log, step: &mut Step) {
+    step.did = Did::Done;
+    match instruction {
+        Instruction::Wait { length, shift } => {
+            let passed = log.wait(step.place, wait_clocks(length, shift));
+            step.wait_clocks = passed.clocks;
+            settle(state, slot, passed, step);
+        }
+        Instruction::Ewait { event, value } => {
+            let passed = log.ewait(step.place, event, value);
+            step.ewait_clocks = passed.clocks;
+            settle(state, slot, passed, step);
+        }
+        Instruction::Exit => state.slot_mut(slot).activity = Activity::Idle,
+        Instruction::Unset(flag) => state.flag_enables &= !(1 << flag),
+        Instruction::Set1(flag) => {
+            state.flag_enables |= 1 << flag;
+            state.flag_values |= 1 << flag;
+        }
+        Instruction::Set0(flag) => {
+            state.flag_enables |= 1 << flag;
+            state.flag_values &= !(1 << flag);
+        }
+        Instruction::Data(data) => state.slot_mut(slot).data = data,
+        Instruction::DataLo(low) => {
+            let data = &mut state.slot_mut(slot).data;
+            *data = *data & 0xffff_0000 | u32::from(low);
+        }
+        Instruction::Addr(address) => step.did = poke(state, slot, address),
+        Instruction::AddrLo(low) => {
+            let high = state.slot(slot).addr.0 & 0xffff_0000;
+            step.did = poke(state, slot, MmioAddress(high | u32::from(low)));
+        }
+    }
+}
+
+/// Moves the place; a wait the log cut off keeps the slot waiting.
+fn settle(state: &mut State, slot: Slot, passed: Passed, step: &mut Step) {
+    step.place = passed.place;
+    if !passed.done {
+        state.slot_mut(slot).activity = Activity::Waiting;
+    }
+}
+
+/// Sets ADDR, then writes DATA there or blocks.
+fn poke(state: &mut State, slot: Slot, address: MmioAddress) -> Did {
+    let enabled = state.hwsq_enable;
+    let slot = state.slot_mut(slot);
+    slot.addr = address;
+    if enabled {
+        return Did::Wrote {
+            address,
+            data: slot.data,
+        };
+    }
+    slot.activity = Activity::Blocked;
+    Did::Done
+}

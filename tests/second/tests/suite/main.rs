@@ -1,0 +1,14 @@
+//! One test crate, so that helpers are shared without dead code.
+
+mod audit;
+mod common;
+mod host;
+mod isa;
+mod job;
+mod job_refusals;
+mod laws;
+mod log;
+mod probe;
+mod replay;
+mod show;
+mod step;
