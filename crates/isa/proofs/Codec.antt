@@ -1,7 +1,7 @@
 -- Reader and writer are inverse to each other, on every family. Assumes nothing.
 use Prim.Native.Nat.{ℕ, suc, _+_, _*_, _/_, _%_, _<_, _≤_}
-use mathlib.Core.Path.{_≡_, refl, ap, ap₂, sym, subst, _∙_}
-use mathlib.Core.Bool.{true, false}
+use mathlib.Core.Path.{_≡_, refl, ap, ap₂, sym, _∙_}
+use mathlib.Core.Bool.{true}
 use mathlib.Core.List.{List, [], _∷_, _++_}
 use lib.ListN.{length, getD, take}
 use lib.Dec.{leb, eqb}
@@ -9,11 +9,9 @@ use native.Mathlib.Omega.{arith}
 use borrow.Author.Tests.{leb-true, le-leb, eqb-true}
 use Rattle.families.specs.Family.{within, knownFamily}
 use Rattle.isa.specs.Opcode.{opcodeAt, laterOnly, sizeOf}
-use Rattle.isa.specs.Wait.{waitFits}
 use Rattle.isa.specs.Reader.{le, readAs, decodeOf}
-use Rattle.isa.specs.Writer.{opcodeOf, onFamily, operandsFit, leBytes, spell, encodeOf}
+use Rattle.isa.specs.Writer.{opcodeOf, onFamily, operandsFit, leBytes, spell}
 use Rattle.isa.specs.Codec.{InType, OneSpelling}
-use Rattle.isa.specs.declared.addresses.MmioAddress.{MmioAddress}
 use Rattle.isa.specs.declared.instructions.Instruction.{Instruction}
 use Rattle.isa.specs.declared.opcodes.Opcode.{Opcode}
 use Rattle.isa.specs.declared.reader.Decoded.{Decoded}

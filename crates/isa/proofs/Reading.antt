@@ -1,4 +1,4 @@
--- Which case of `decodeOf` holds. Assumes nothing.
+-- Which case of `decodeOf` holds, and which bytes a reading depends on. Assumes nothing.
 use Prim.Native.Nat.{ℕ, _<_, _≤_}
 use mathlib.Core.Path.{_≡_, refl}
 use mathlib.Core.Bool.{true, false, cond}
@@ -13,6 +13,7 @@ use Rattle.isa.specs.Reader.{readAs, decodeOf, decodedNumber, readRefusa
 use Rattle.isa.specs.declared.opcodes.Opcode.{Opcode}
 use Rattle.isa.specs.declared.reader.Decoded.{Decoded}
 use Rattle.isa.specs.declared.reader.Unreadable.{Unreadable}
+use Rattle.isa.proofs.Bytes.{two, four}
 use Rattle.isa.proofs.Tests.{cond-elim}
 
 module _ (f : ℕ) (bs : List ℕ) where
@@ -32,6 +33,20 @@ module _ (f : ℕ) (bs : List ℕ) where
     pub whole : sizeOf k ≤ length bs → readAs k bs ≡ decodeOf f bs
     unfolding decodeOf
     whole l = simp (u, le-leb 1 (length bs) h, ← e, le-leb (sizeOf k) (length bs) l)
+
+-- a reading depends on the bytes that it takes
+pub same-read : (k : Opcode) (bytes other : List ℕ) → ((i : ℕ) → i < sizeOf k → getD other i 0 ≡ getD bytes i 0) → readAs k other ≡ readAs k bytes
+same-read Opcode.Wait bytes other h = rw (h 0 (omega arith))
+same-read Opcode.AddrLo bytes other h = rw (← two other, ← two bytes, h 1 (omega arith), h 2 (omega arith))
+same-read Opcode.DataLo bytes other h = rw (← two other, ← two bytes, h 1 (omega arith), h 2 (omega arith))
+same-read Opcode.Ewait bytes other h = rw (h 1 (omega arith), h 2 (omega arith))
+same-read Opcode.Exit bytes other h = refl
+same-read Opcode.Unset bytes other h = rw (h 0 (omega arith))
+same-read Opcode.Set1 bytes other h = rw (h 0 (omega arith))
+same-read Opcode.Set0 bytes other h = rw (h 0 (omega arith))
+same-read Opcode.Addr bytes other h = rw (← four other, ← four bytes, h 1 (omega arith), h 2 (omega arith), h 3 (omega arith), h 4 (omega arith))
+same-read Opcode.Data bytes other h = rw (← four other, ← four bytes, h 1 (omega arith), h 2 (omega arith), h 3 (omega arith), h 4 (omega arith))
+same-read Opcode.Unknown bytes other h = refl
 
 -- ---- the refusals' numbers
 

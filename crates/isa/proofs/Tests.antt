@@ -1,19 +1,17 @@
 -- What the tests of the definitions give, from facts on numbers and back. Assumes nothing.
 use Prim.Native.Nat.{ℕ, _≤_}
 use mathlib.Core.Path.{_≡_, refl}
-use mathlib.Core.Bool.{Bool, true, false, cond, _&&_}
-use lib.Dec.{leb}
-use borrow.Author.Tests.{le-leb, leb-true}
-use Rattle.families.specs.Family.{within}
+use mathlib.Core.Bool.{Bool, true, false, cond, _&&_, and-eq-true-iff}
+use native.Mathlib.Omega.{arith}
+use lib.Dec.{leb, eqb}
+use borrow.Author.Tests.{le-leb, leb-true, eqb-false}
+use Rattle.families.specs.Family.{within, knownFamily, byFamily}
 
 pub both-left : (a b : Bool) → (a && b) ≡ true → a ≡ true
-both-left true b e = refl
-both-left false b e = e
+both-left a b e = and-eq-true-iff a b .0 e .0
 
 pub both-right : (a b : Bool) → (a && b) ≡ true → b ≡ true
-both-right true b e = e
-both-right false true e = refl
-both-right false false e = e
+both-right a b e = and-eq-true-iff a b .0 e .1
 
 not-both : (a b : Bool) → (a ≡ true → b ≡ true → ⊥) → (a && b) ≡ false
 not-both true true h = absurd (h refl refl)
@@ -33,3 +31,13 @@ bounds low n high e = (leb-true low n (both-left (leb low n) (leb n high) e), le
 pub cond-elim : {A : Type 0} (P : A → Type 0) (c : Bool) {a b : A} → (c ≡ true → P a) → (c ≡ false → P b) → P (cond c a b)
 cond-elim P true f g = f refl
 cond-elim P false f g = g refl
+
+-- what holds of each family's value, and of 0 where there is no such family, holds of every number's
+pub by-family-elim : (P : ℕ → Type 0) (family one two three four : ℕ) → P one → P two → P three → P four → (knownFamily family ≡ false → P 0) → P (byFamily family one two three four)
+unfolding byFamily
+by-family-elim P family one two three four a b c d z =
+    cond-elim P (eqb family 1) (λ _. a)
+    (λ n₁. cond-elim P (eqb family 2) (λ _. b)
+    (λ n₂. cond-elim P (eqb family 3) (λ _. c)
+    (λ n₃. cond-elim P (eqb family 4) (λ _. d)
+    (λ n₄. z (outside 1 family 4 (λ l h. omega (arith, eqb-false family 1 n₁, eqb-false family 2 n₂, eqb-false family 3 n₃, eqb-false family 4 n₄)))))))

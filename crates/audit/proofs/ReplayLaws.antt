@@ -1,0 +1,126 @@
+-- What replay answers: the run of a start of the script, an ending that is one, and sums that keep the clock law. Assumes nothing.
+use Prim.Native.Nat.{ℕ, suc, _+_, _*_, _/_, _%_, _^_, _<_}
+use mathlib.Core.Path.{_≡_, refl, ap, ap₂, sym, subst, _∙_}
+use mathlib.Core.Bool.{Bool, true}
+use mathlib.Core.List.{List}
+use native.Mathlib.Omega.{arith}
+use lib.Dec.{leb}
+use Rattle.families.specs.Family.{codeSize}
+use Rattle.isa.proofs.Tests.{cond-elim}
+use Rattle.log.specs.Validity.{validLog}
+use Rattle.machine.specs.Flags.{flagsWord0, flagsWord1, flagsFromWords}
+use Rattle.machine.specs.Slot.{slotOf}
+use Rattle.machine.specs.declared.flags.Flags.{Flags}
+use Rattle.machine.specs.declared.slots.Mode.{Mode}
+use Rattle.machine.specs.declared.slots.SlotName.{SlotName}
+use Rattle.machine.specs.declared.state.State.{State}
+use Rattle.machine.proofs.SlotLaws.{has-a}
+use Rattle.audit.specs.Input.{scriptFits}
+use Rattle.audit.specs.Replay.{replayState, endingOf, toldOf, fullRun, replayedRun, replayOf, EndsRight}
+use Rattle.audit.specs.Run.{Run, begun, runFor}
+use Rattle.audit.specs.Start.{Start}
+use Rattle.audit.specs.declared.replays.Ending.{Ending}
+use Rattle.audit.specs.declared.replays.ReplayAnswer.{ReplayAnswer}
+use Rattle.audit.proofs.Alike.{Alike, alike-run}
+use Rattle.audit.proofs.RunClocks.{run-clocks}
+use Rattle.audit.proofs.Scripts.{Fits, fits-script}
+use Rattle.audit.proofs.Settled.{stops}
+use Rattle.audit.proofs.Starts.{start-fetches, filled-fetches}
+
+abbrev flagsOf : ℕ → ℕ → Flags
+flagsOf values enables = record { values = values; enables = enables }
+
+-- the two words hold the flags
+words-back : (flags : Flags) → flags .values < 2 ^ 32 → flagsFromWords (flagsWord0 flags) (flagsWord1 flags) ≡ flags
+words-back flags h = ap₂ flagsOf values-back enables-back
+  where
+    values-back : flagsWord0 flags % 65536 + 65536 * (flagsWord1 flags % 65536) ≡ flags .values
+    values-back = omega arith
+
+    enables-back : flagsWord0 flags / 65536 + 65536 * (flagsWord1 flags / 65536) ≡ flags .enables
+    enables-back = omega arith
+
+-- ---- a start and its replay run alike
+
+module _ (family : ℕ) (code marks : List ℕ) (entry : ℕ) (fits : scriptFits family code marks entry ≡ true) where
+  fit : Fits family code marks entry
+  fit = fits-script family code marks entry fits
+
+  -- replay's own state, from the start's values
+  abbrev replayed : SlotName → State → State
+  replayed name s = replayState family code marks entry (slotOf s name .addr .0) (slotOf s name .«data») (flagsWord0 (s .flags)) (flagsWord1 (s .flags)) true
+
+  start-alike : (name : SlotName) (s : State) → Start family code marks entry name s → Alike SlotName.A name (begun (replayed name s)) (begun s)
+  start-alike name s start = record {
+    family = sym (start .same-family);
+    has = has-a family (fit .known) ∙ sym (rw (start .same-family) (start .slot-there));
+    enable = sym (start .enabled);
+    fetches = λ at. rw (start .same-family) (filled-fetches family code marks entry fit at ∙ sym (start-fetches family code marks entry fit name s start at));
+    slot = rw (← start .executing, ← start .at-entry);
+    flags = words-back (s .flags) (start .in-type .values);
+    place = refl;
+    writes = refl;
+    count = refl;
+    waits = refl;
+    ewaits = refl;
+  }
+
+  -- a start's family is the script's, so both take the same number of steps
+  full-alike : (name : SlotName) (s : State) → Start family code marks entry name s → (clocks known values : List ℕ)
+      → Alike SlotName.A name (fullRun SlotName.A clocks known values (replayed name s)) (fullRun name clocks known values s)
+  full-alike name s start clocks known values =
+      subst (λ (f : ℕ). Alike SlotName.A name (fullRun SlotName.A clocks known values (replayed name s)) (runFor name clocks known values (suc (codeSize f)) (begun s)))
+      (sym (start .same-family))
+      (alike-run SlotName.A name clocks known values (suc (codeSize family)) (begun (replayed name s)) (begun s) (start-alike name s start))
+
+-- runs that are alike are told alike
+told-alike : (name name′ : SlotName) (clocks : List ℕ) (r r′ : Run) → Alike name name′ r r′ → toldOf name clocks r ≡ toldOf name′ clocks r′
+told-alike name name′ clocks r r′ a = rw (a .slot, a .flags, a .place, a .count, a .writes, a .waits, a .ewaits)
+
+-- "replay answers what the steps give": the clause `replays` of a pass
+pub replay-clause : (family : ℕ) (code marks : List ℕ) (entry : ℕ) (ranges : List ℕ) → scriptFits family code marks entry ≡ true
+    → (name : SlotName) (s : State) → Start family code marks entry name s → (clocks known values : List ℕ) → validLog clocks known values ≡ true
+    → (replayOf family code marks entry (slotOf s name .addr .0) (slotOf s name .«data») (flagsWord0 (s .flags)) (flagsWord1 (s .flags)) true clocks known values 340
+    ≡ ReplayAnswer.Ended (toldOf name clocks (fullRun name clocks known values s)))
+    × (replayedRun family code marks entry (slotOf s name .addr .0) (slotOf s name .«data») (flagsWord0 (s .flags)) (flagsWord1 (s .flags)) true clocks known values .writes
+    ≡ fullRun name clocks known values s .writes)
+unfolding replayOf
+replay-clause family code marks entry ranges fits name s start clocks known values log =
+    let alike = full-alike family code marks entry fits name s start clocks known values in (
+      simp (fits, log) (ap ReplayAnswer.Ended (told-alike SlotName.A name clocks (fullRun SlotName.A clocks known values (replayed family code marks entry fits name s)) (fullRun name clocks known values s) alike)),
+      alike .writes,
+    )
+
+-- ---- how a replay ends, and its sums
+
+stop-runs : (mode : Mode) → endingOf mode ≡ Ending.Stop → mode ≡ Mode.Running
+stop-runs Mode.Idle e = cc
+stop-runs Mode.Running e = refl
+stop-runs Mode.Waiting e = cc
+stop-runs Mode.Blocked e = cc
+stop-runs Mode.Hung e = cc
+
+module _ (family : ℕ) (code marks : List ℕ) (entry addr word flags0 flags1 : ℕ) (enable : Bool) (clocks known values : List ℕ) where
+  -- a slot that still runs at the end is one that the next step stops, and the sums make the log's total
+  pub replay-ends : scriptFits family code marks entry ≡ true → validLog clocks known values ≡ true
+      → EndsRight family code marks entry addr word flags0 flags1 enable clocks known values
+      (ReplayAnswer.Ended (toldOf SlotName.A clocks (replayedRun family code marks entry addr word flags0 flags1 enable clocks known values)))
+  replay-ends fits log =
+      let s = replayState family code marks entry addr word flags0 flags1 enable in
+      let r = replayedRun family code marks entry addr word flags0 flags1 enable clocks known values in
+      let known-family = fits-script family code marks entry fits .known in (
+        (λ e. stops SlotName.A clocks known values s known-family (has-a family known-family) log (stop-runs (slotOf (r .state) SlotName.A .mode) e)),
+        run-clocks clocks known values log SlotName.A s (suc (codeSize family)),
+      )
+
+  -- so does every answer of replay
+  pub replay-ends-right : (lent : ℕ)
+      → EndsRight family code marks entry addr word flags0 flags1 enable clocks known values (replayOf family code marks entry addr word flags0 flags1 enable clocks known values lent)
+  unfolding replayOf
+  replay-ends-right lent =
+      cond-elim P (scriptFits family code marks entry)
+      (λ f. cond-elim P (leb 340 lent) (λ _. cond-elim P (validLog clocks known values) (λ l. replay-ends f l) (λ _. tt)) (λ _. tt))
+      (λ _. tt)
+    where
+      P : ReplayAnswer → Type 0
+      P answer = EndsRight family code marks entry addr word flags0 flags1 enable clocks known values answer

@@ -1,0 +1,56 @@
+-- The answer is the defined verdict, and demand 3 holds of that. Assumes nothing.
+use denote.Ref.{now}
+use Prim.Native.Nat.{ℕ}
+use mathlib.Core.Path.{_≡_, sym, subst, _∙_}
+use mathlib.Core.Bool.{Bool, true, _&&_}
+use borrow.Author.Needs.{needs}
+use borrow.Author.Tests.{not-true, not-false}
+use Rattle.audit.specs.Auditor.{auditOf}
+use Rattle.audit.specs.Demand3.{Demand3}
+use Rattle.audit.specs.Promises.{Audits}
+use Rattle.audit.specs.declared.auditor.Verdict.{Verdict}
+use Rattle.audit.proofs.Claim.{demand3}
+use Rattle.audit.proofs.ReplayLaws.{replay-clause}
+use Rattle.audit.proofs.auditor.audit.Statement.{statement}
+use Rattle.audit.proofs.auditor.audit.Tie as tie
+
+-- the code's elements are bytes, so the claim holds of the defined verdict
+audits : (c : tie.After-shared-slice-known) {r : Verdict} → r ≡ auditOf (c .before .args .family) (now (c .before .args .code)) (now (c .before .args .marks)) (c .before .args .entry) (now (c .before .args .ranges))
+    → Audits (c .before .args .family) (now (c .before .args .code)) (now (c .before .args .marks)) (c .before .args .entry) (now (c .before .args .ranges)) r
+audits c e =
+    let a = c .before .args in
+    record {
+      answered = e;
+      demand3 = subst (Demand3 (a .family) (now (a .code)) (now (a .marks)) (a .entry) (now (a .ranges))) (sym e)
+          (demand3 (a .family) (now (a .code)) (now (a .marks)) (a .entry) (now (a .ranges)) (λ (i : ℕ). c .shared-slice-known .given i .fits)
+          (replay-clause (a .family) (now (a .code)) (now (a .marks)) (a .entry) (now (a .ranges))));
+    }
+
+returns : tie.Need-returns
+unfolding auditOf
+returns c = audits (c .before .before .before .before) (simp (sym (c .before .script-fits .ensures) ∙ not-true _ (c .if1 .taken)))
+
+returns-2 : tie.Need-returns-2
+unfolding auditOf
+returns-2 c =
+    let k = c .before .before in
+    audits (k .before .before .before .before) (simp (sym (k .before .script-fits .ensures) ∙ not-false _ (k .if1 .left), sym (c .before .ranges-fit .ensures) ∙ not-true _ (c .if2 .taken)))
+
+both-true : (a b : Bool) → a ≡ true → b ≡ true → (a && b) ≡ true
+both-true a b p q = rw (p, q)
+
+walk-requires : tie.Need-walk-requires
+walk-requires c κs =
+    let k = c .before .before in
+    both-true _ _ (sym (k .before .script-fits .ensures) ∙ not-false _ (k .if1 .left)) (sym (c .before .ranges-fit .ensures) ∙ not-false _ (c .if2 .left))
+
+returns-3 : tie.Need-returns-3
+unfolding auditOf
+returns-3 c =
+    let j = c .before in
+    let k = j .before .before in
+    audits (k .before .before .before .before)
+    (c .walk .ensures ∙ simp (sym (k .before .script-fits .ensures) ∙ not-false _ (k .if1 .left), sym (j .before .ranges-fit .ensures) ∙ not-false _ (j .if2 .left)))
+
+pub audit-spec : {M : Type 1} → statement M
+audit-spec = tie.close (tie.spec (λ c κs. search needs) returns (λ c κs. search needs) returns-2 walk-requires returns-3)

@@ -1,0 +1,36 @@
+-- What may be audited (01, the auditor's row 9), and which addresses the ranges list.
+use Prim.Native.Nat.{ℕ}
+use mathlib.Core.Bool.{Bool, true, false, _&&_, _||_}
+use mathlib.Core.List.{List, [], _∷_}
+use lib.ListN.{length}
+use lib.Dec.{leb, eqb}
+use Rattle.families.specs.Family.{knownFamily, codeSize, highestEntry, within}
+
+-- an address is listed if a range holds it, first and last included
+abbrev pub listedIn : List ℕ → ℕ → Bool
+listedIn [] address = false
+listedIn (first ∷ []) address = false
+listedIn (first ∷ last ∷ ranges) address = within first address last || listedIn ranges address
+
+-- each first has its last and is not above it
+abbrev pub rangesPaired : List ℕ → Bool
+rangesPaired [] = true
+rangesPaired (first ∷ []) = false
+rangesPaired (first ∷ last ∷ ranges) = leb first last && rangesPaired ranges
+
+-- a mark is 0 or 1
+abbrev pub marksPlain : List ℕ → Bool
+marksPlain [] = true
+marksPlain (m ∷ marks) = leb m 1 && marksPlain marks
+
+-- a known family, code and marks of its size, plain marks, an entry that its registers can hold
+unfoldable pub scriptFits : ℕ → List ℕ → List ℕ → ℕ → Bool
+scriptFits family code marks entry =
+    knownFamily family && (eqb (length code) (codeSize family) && (eqb (length marks) (codeSize family) && (marksPlain marks && leb entry (highestEntry family))))
+
+-- at most 64 ranges, two entries each
+unfoldable pub rangesFit : List ℕ → Bool
+rangesFit ranges = leb (length ranges) 128 && rangesPaired ranges
+
+abbrev pub inputFits : ℕ → List ℕ → List ℕ → ℕ → List ℕ → Bool
+inputFits family code marks entry ranges = scriptFits family code marks entry && rangesFit ranges

@@ -1,0 +1,11 @@
+-- What the auditor promises of its verdict: the defined one, its number, and demand 3 about it.
+use Prim.Native.Nat.{ℕ}
+use mathlib.Core.Path.{_≡_}
+use mathlib.Core.List.{List}
+use Rattle.audit.specs.Auditor.{auditOf}
+use Rattle.audit.specs.Demand3.{Demand3}
+use Rattle.audit.specs.declared.auditor.Verdict.{Verdict}
+
+pub record Audits (family : ℕ) (code marks : List ℕ) (entry : ℕ) (ranges : List ℕ) (answer : Verdict) : Type 0 where
+  pub answered : answer ≡ auditOf family code marks entry ranges
+  pub demand3 : Demand3 family code marks entry ranges answer

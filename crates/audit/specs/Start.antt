@@ -1,0 +1,57 @@
+-- The starts of demand 3 (01, "Demand 3's words").
+use Prim.Native.Nat.{ℕ, _^_, _<_}
+use mathlib.Core.Path.{_≡_}
+use mathlib.Core.Bool.{true, false}
+use mathlib.Core.List.{List}
+use lib.ListN.{length, getD}
+use lib.Dec.{eqb}
+use Rattle.families.specs.Family.{codeSize}
+use Rattle.isa.specs.declared.addresses.CodeAddress.{CodeAddress}
+use Rattle.isa.specs.declared.addresses.MmioAddress.{MmioAddress}
+use Rattle.machine.specs.Flags.{pausedOf}
+use Rattle.machine.specs.Slot.{hasSlot, slotOf}
+use Rattle.machine.specs.declared.flags.Flags.{Flags}
+use Rattle.machine.specs.declared.slots.Mode.{Mode}
+use Rattle.machine.specs.declared.slots.Slot.{Slot}
+use Rattle.machine.specs.declared.slots.SlotName.{SlotName}
+use Rattle.machine.specs.declared.state.State.{State}
+
+-- the numbers in a slot and in a state are of their types: what every value of the code's types is
+pub record SlotInType (slot : Slot) : Type 0 where
+  pub ip : slot .ip .0 < 2 ^ 64
+  pub addr : slot .addr .0 < 2 ^ 32
+  pub word : slot .«data» < 2 ^ 32
+
+pub record InType (s : State) : Type 0 where
+  pub family : s .family < 2 ^ 8
+  pub code-size : length (s .code) ≡ 512
+  pub code-bytes : (i : ℕ) → getD (s .code) i 0 < 2 ^ 8
+  pub marks-size : length (s .marks) ≡ 512
+  pub marks-bytes : (i : ℕ) → getD (s .marks) i 0 < 2 ^ 8
+  pub values : s .flags .values < 2 ^ 32
+  pub enables : s .flags .enables < 2 ^ 32
+  pub entries : s .entries < 2 ^ 32
+  pub entries-high : s .«entries_high» < 2 ^ 32
+  pub a : SlotInType (s .a)
+  pub b : SlotInType (s .b)
+
+abbrev pub otherOf : SlotName → SlotName
+otherOf SlotName.A = SlotName.B
+otherOf SlotName.B = SlotName.A
+
+-- a start in the named slot
+pub record Start (family : ℕ) (code marks : List ℕ) (entry : ℕ) (name : SlotName) (s : State) : Type 0 where
+  pub in-type : InType s
+  -- a state of the audited family, which has the slot
+  pub same-family : s .family ≡ family
+  pub slot-there : hasSlot family name ≡ true
+  -- the bytes marked 1 are uploaded as audited, and no others are; other bytes may hold anything
+  pub uploaded : (i : ℕ) → i < codeSize family → eqb (getD (s .marks) i 0) 1 ≡ eqb (getD marks i 0) 1
+  pub as-audited : (i : ℕ) → i < codeSize family → getD marks i 0 ≡ 1 → getD (s .code) i 0 ≡ getD code i 0
+  -- the slot executes, not hung, blocked or in a wait, with IP at the entry; any other slot is idle
+  pub executing : slotOf s name .mode ≡ Mode.Running
+  pub at-entry : slotOf s name .ip .0 ≡ entry
+  pub other-idle : hasSlot family (otherOf name) ≡ true → slotOf s (otherOf name) .mode ≡ Mode.Idle
+  -- HWSQ_ENABLE 1, memory not paused; all else is free
+  pub enabled : s .enable ≡ true
+  pub not-paused : pausedOf family (s .flags) ≡ false

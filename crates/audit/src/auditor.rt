@@ -1,0 +1,159 @@
+// The auditor: reads a script from its entry to the first exit and tells the first fault.
+ghost use mathlib.Core.Path.{_≡_};
+ghost use mathlib.Core.Bool.{true};
+ghost use Rattle.families.specs.Family.{codeSize};
+ghost use Rattle.audit.specs.Input.{inputFits};
+ghost use Rattle.audit.specs.Auditor.{faultNumber, faultOf, knowNothing, verdictIn};
+ghost use Rattle.audit.specs.Promises.{Audits};
+use crate::assess::judge;
+use crate::assess::know_next;
+use crate::assess::know_nothing;
+use crate::input::script_fits;
+use crate::ranges::ranges_fit;
+use isa::CodeAddress;
+use isa::Decoded;
+use isa::MmioAddress;
+use isa::Unreadable;
+
+pub enum Fault {
+    // a byte past the code RAM
+    PastRam,
+    // a byte never uploaded
+    NotUploaded,
+    // an unknown opcode
+    Unknown,
+    // addrlo with no addr before it
+    NoAddress,
+    // a poke with a half of DATA not set
+    HalfData,
+    // a poke outside every range
+    Outside,
+    // an ewait that nothing can release
+    Unreleased,
+    // exit with memory paused
+    Paused,
+    // what was handed in is no script with ranges
+    Input,
+}
+
+pub enum Verdict {
+    Pass {
+        // where the script exits
+        place: CodeAddress,
+        // instructions, exit included
+        count: usize,
+        writes: usize,
+        // clocks of its waits
+        clocks: u64,
+    },
+    // the first fault, and the opcode's place
+    Fault(Fault, CodeAddress),
+}
+
+// What ADDR holds, where the script has set it.
+pub enum KnownAddress {
+    Unset,
+    At(MmioAddress),
+}
+
+// What is known at a place of the script.
+pub struct Knowledge {
+    pub addr: KnownAddress,
+    // whether both halves of DATA are set
+    pub data: bool,
+    // whether the last touch of flag 16 was set1
+    pub paused: bool,
+    pub count: usize,
+    pub writes: usize,
+    pub clocks: u64,
+}
+
+pub enum Judgement {
+    Fine,
+    Exit,
+    Bad(Fault),
+}
+
+// The fault's number.
+pub fn fault_number(fault: Fault) -> u8
+    ensures { λ r. ⌜ r ≡ faultNumber fault ⌝ }
+{
+    match fault {
+        Fault::PastRam => 1,
+        Fault::NotUploaded => 2,
+        Fault::Unknown => 3,
+        Fault::NoAddress => 4,
+        Fault::HalfData => 5,
+        Fault::Outside => 6,
+        Fault::Unreleased => 7,
+        Fault::Paused => 8,
+        Fault::Input => 9,
+    }
+}
+
+// The verdict on a script; the ranges are firsts and lasts, one after the other.
+pub fn audit<'a>(
+    family: u8,
+    code: &'a [u8],
+    marks: &'a [u8],
+    entry: usize,
+    ranges: &'a [u32],
+) -> Verdict
+    ensures { λ r. ⌜ Audits family (now (code .entry)) (now (marks .entry)) entry (now (ranges .entry)) r ⌝ }
+{
+    if !script_fits(family, code, marks, entry) {
+        return Verdict::Fault(Fault::Input, CodeAddress(0));
+    }
+    if !ranges_fit(ranges) {
+        return Verdict::Fault(Fault::Input, CodeAddress(0));
+    }
+    walk(family, code, marks, entry, ranges)
+}
+
+// Why there is no instruction, as a fault.
+fn fault_of(why: Unreadable) -> Fault
+    ensures { λ r. ⌜ r ≡ faultOf why ⌝ }
+{
+    match why {
+        Unreadable::Family => Fault::Input,
+        Unreadable::Empty => Fault::PastRam,
+        Unreadable::Unknown => Fault::Unknown,
+        Unreadable::Short => Fault::PastRam,
+        Unreadable::NotUploaded => Fault::NotUploaded,
+    }
+}
+
+// From the entry to the first exit or fault.
+fn walk<'a>(family: u8, code: &'a [u8], marks: &'a [u8], entry: usize, ranges: &'a [u32]) -> Verdict
+    requires { ⌜ inputFits family (now code) (now marks) entry (now ranges) ≡ true ⌝ }
+    ensures { λ r. ⌜ r ≡ verdictIn (codeSize family) family (now (code .entry)) (now (marks .entry)) (now (ranges .entry)) entry knowNothing ⌝ }
+{
+    let mut at = entry;
+    let mut known = know_nothing();
+    let verdict = loop {
+        let found = fetch::fetch(family, code, marks, at);
+        let Decoded::Instruction(instruction, length) = found else {
+            break Verdict::Fault(fault_of(fetch::reason_of(found)), CodeAddress(at));
+        };
+        let action = machine::action_of(instruction);
+        let judgement = judge(family, ranges, action, known);
+        match judgement {
+            Judgement::Fine => {
+                known = know_next(action, known);
+                at += length;
+            }
+            Judgement::Exit => {
+                break Verdict::Pass {
+                    place: CodeAddress(at),
+                    count: known.count + 1,
+                    writes: known.writes,
+                    clocks: known.clocks,
+                };
+            }
+            Judgement::Bad(fault) => {
+                break Verdict::Fault(fault, CodeAddress(at));
+            }
+        }
+    };
+    verdict
+}

@@ -1,0 +1,46 @@
+-- Upload marks, one byte at a time. Assumes nothing.
+use Prim.Native.Nat.{ℕ, zero, suc, _+_, _-_, _≤_, _<_}
+use mathlib.Core.Path.{_≡_, sym, _∙_}
+use mathlib.Core.Bool.{true, false, _&&_}
+use mathlib.Core.List.{List}
+use native.Mathlib.Omega.{arith}
+use native.Mathlib.Decide.{decLt}
+use lib.ListN.{length, getD, List·getD-eq-default}
+use lib.Dec.{eqb}
+use borrow.Author.Tests.{eq-eqb, ne-eqb, eqb-true}
+use Rattle.isa.proofs.Tests.{both-left, both-right}
+use Rattle.fetch.specs.Fetch.{allMarked}
+
+-- a byte that has a mark lies within the marks
+pub marked-within : (marks : List ℕ) (i : ℕ) → getD marks i 0 ≡ 1 → i < length marks
+marked-within marks i e =
+    elim (decLt i (length marks)) as (λ _. i < length marks) [
+      | yes l ↦ l
+      | no l ↦ absurd (omega (arith, List·getD-eq-default marks 0 (let h : length marks ≤ i = omega arith in h)))
+    ]
+
+module _ (marks : List ℕ) (i left : ℕ) where
+  pub marked-none : left ≤ 0 → true ≡ allMarked left marks i
+  unfolding allMarked
+  marked-none h = let z : left ≡ 0 = omega arith in rw z
+
+  step : (m : ℕ) → left ≡ suc m → allMarked left marks i ≡ eqb (getD marks i 0) 1 && allMarked m marks (i + 1)
+  unfolding allMarked
+  step m z = rw z
+
+  pub marked-next : 0 < left → getD marks i 0 ≡ 1 → allMarked (left - 1) marks (i + 1) ≡ allMarked left marks i
+  marked-next h e = sym (step (left - 1) (omega arith) ∙ rw (eq-eqb (getD marks i 0) 1 e))
+
+  pub marked-not : 0 < left → (getD marks i 0 ≡ 1 → ⊥) → false ≡ allMarked left marks i
+  marked-not h e = sym (step (left - 1) (omega arith) ∙ rw (ne-eqb (getD marks i 0) 1 e))
+
+-- each of the bytes has its mark
+pub marked-at : (n : ℕ) (marks : List ℕ) (i : ℕ) → allMarked n marks i ≡ true → (j : ℕ) → j < n → getD marks (i + j) 0 ≡ 1
+unfolding allMarked
+marked-at zero marks i e j h = absurd (omega arith)
+marked-at (suc n) marks i e zero h =
+    let z : i + 0 ≡ i = omega arith in
+    rw z (eqb-true (getD marks i 0) 1 (both-left (eqb (getD marks i 0) 1) (allMarked n marks (i + 1)) e))
+marked-at (suc n) marks i e (suc j) h =
+    let z : i + suc j ≡ i + 1 + j = omega arith in
+    rw z (marked-at n marks (i + 1) (both-right (eqb (getD marks i 0) 1) (allMarked n marks (i + 1)) e) j (omega arith))

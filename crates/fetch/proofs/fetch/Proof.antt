@@ -1,0 +1,79 @@
+-- Each way out is the case of `fetchOf` whose tests led there; the part handed to the reader is the RAM from the place on. Assumes nothing.
+use denote.Ref.{now}
+use Prim.Native.Nat.{ℕ, _-_, _≤_, _<_}
+use mathlib.Core.Path.{_≡_, refl, sym, ap, subst, _∙_}
+use mathlib.Core.List.{List}
+use native.Mathlib.Omega.{arith}
+use lib.ListN.{length, take, drop, getD, length-take}
+use borrow.Author.Needs.{needs}
+use borrow.Author.Tests.{lt-ltb, le-ltb, eq-eqb, ne-eqb}
+use Rattle.families.specs.Family.{codeSize}
+use Rattle.isa.specs.Reader.{decodeOf}
+use Rattle.isa.specs.Codec.{OneSpelling}
+use Rattle.isa.specs.declared.reader.Decoded.{Decoded}
+use Rattle.isa.specs.declared.reader.Unreadable.{Unreadable}
+use Rattle.fetch.specs.Fetch.{codeRam, checkMarks, fetchOf, Inside, Fetches}
+use Rattle.fetch.proofs.Places.{part, inside-of}
+use Rattle.fetch.proofs.fetch.Statement.{statement}
+use Rattle.fetch.proofs.fetch.Tie as tie
+
+-- a refusal holds no instruction, so nothing of it has to lie in the RAM
+refused : {family : ℕ} {code marks : List ℕ} {at : ℕ} (why : Unreadable) → Decoded.Refused why ≡ fetchOf family code marks at → Fetches family code marks at (Decoded.Refused why)
+refused why e = record { answered = e; inside = tt }
+
+returns : tie.Need-returns
+unfolding fetchOf
+returns c =
+    let a = c .before .before .before .before .args in
+    let r = codeRam (a .family) (now (a .code)) in
+    refused Unreadable.Empty (simp (le-ltb (a .at) (length r) (omega (arith, c .before .ram-length .ensures))))
+
+-- past the first test the place lies in the RAM
+before-end : (c : tie.Else1) → c .before .before .before .before .args .at < length (codeRam (c .before .before .before .before .args .family) (now (c .before .before .before .before .args .code)))
+before-end c = omega (arith, c .before .ram-length .ensures)
+
+returns-2 : tie.Need-returns-2
+unfolding fetchOf
+returns-2 c =
+    let a = c .before .before .before .before .before .before .args in
+    let r = codeRam (a .family) (now (a .code)) in
+    refused Unreadable.NotUploaded
+    (simp (lt-ltb (a .at) (length r) (before-end (c .before .before)), ne-eqb (getD (now (a .marks)) (a .at) 0) 1 (λ e. c .if2 .taken (c .before .mark .ensures ∙ e))))
+
+part-decode-end : tie.Need-part-decode-end
+part-decode-end c =
+    let a = c .before .before .before .before .before .before .args in
+    omega (arith, length-take (codeSize (a .family)) (now (a .code)), c .before .before .before .ram-length .ensures)
+
+returns-3 : tie.Need-returns-3
+unfolding fetchOf
+returns-3 c =
+    let k = c .before .before .before in
+    let a = k .before .before .before .before .before .before .args in
+    let r = codeRam (a .family) (now (a .code)) in
+    let e : take (k .before .before .before .ram-length .result - a .at) (drop (a .at) (now (a .code))) ≡ drop (a .at) r =
+    ap (λ (n : ℕ). take (n - a .at) (drop (a .at) (now (a .code)))) (k .before .before .before .ram-length .ensures) ∙ part (codeSize (a .family)) (a .at) (now (a .code)) in
+    let d = c .before .decode in
+    let found : d .result ≡ decodeOf (a .family) (drop (a .at) r) = d .ensures .answered ∙ ap (decodeOf (a .family)) e in
+    let spelled : OneSpelling (a .family) (drop (a .at) r) (d .result) = rw e at (d .ensures .spelled-so) in
+    let inside = inside-of (a .family) (now (a .code)) (now (a .marks)) (a .at) (d .result) (omega (arith, before-end (k .before .before))) spelled in
+    let answer : c .check-marks .result ≡ checkMarks (now (a .marks)) (a .at) (d .result) = c .check-marks .ensures in
+    record {
+      answered = answer ∙ simp (lt-ltb (a .at) (length r) (before-end (k .before .before)), eq-eqb (getD (now (a .marks)) (a .at) 0) 1 (sym (k .before .mark .ensures) ∙ k .if2 .left), found);
+      inside = subst (Inside (a .family) (now (a .code)) (a .at)) (sym answer) inside;
+    }
+
+pub fetch-spec : {M : Type 1} → statement M
+fetch-spec =
+    tie.close
+    (tie.spec
+    (λ c κs. search needs)
+    returns
+    (λ c κs. search needs)
+    returns-2
+    (λ c. search needs)
+    (λ c. search needs)
+    part-decode-end
+    (λ c κs. search needs)
+    (λ c κs. search needs)
+    returns-3)

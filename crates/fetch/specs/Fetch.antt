@@ -1,0 +1,57 @@
+-- Fetching an instruction from code RAM (01, "Steps and time", and the auditor's order at one place: first byte 1, 2, 3, then
+-- operands 1, 2).
+use Prim.Native.Nat.{ℕ, zero, suc, _+_, _<_, _≤_}
+use mathlib.Core.Path.{_≡_}
+use mathlib.Core.Bool.{Bool, true, cond, _&&_}
+use mathlib.Core.List.{List}
+use lib.ListN.{length, getD, take, drop}
+use lib.Dec.{ltb, eqb}
+use Rattle.families.specs.Family.{codeSize}
+use Rattle.isa.specs.Reader.{decodeOf}
+use Rattle.isa.specs.Writer.{operandsFit}
+use Rattle.isa.specs.declared.instructions.Instruction.{Instruction}
+use Rattle.isa.specs.declared.reader.Decoded.{Decoded}
+use Rattle.isa.specs.declared.reader.Unreadable.{Unreadable}
+
+-- the family's code RAM: bytes past its size are no part of it, whatever holds them
+abbrev pub codeRam : ℕ → List ℕ → List ℕ
+codeRam family code = take (codeSize family) code
+
+-- each of the n bytes from a place on is marked 1
+unfoldable pub allMarked : ℕ → List ℕ → ℕ → Bool
+allMarked zero marks at = true
+allMarked (suc n) marks at = let later = allMarked n marks (at + 1) in eqb (getD marks at 0) 1 && later
+
+-- an instruction stands only if all its bytes were uploaded
+abbrev pub checkMarks : List ℕ → ℕ → Decoded → Decoded
+checkMarks marks at (Decoded.Instruction instruction n) =
+    cond (allMarked n marks at) (Decoded.Instruction instruction n) (Decoded.Refused Unreadable.NotUploaded)
+checkMarks marks at (Decoded.Refused why) = Decoded.Refused why
+
+-- the first byte lies in the RAM and was uploaded; then what the reader says of the code from there on, if all of it was uploaded
+unfoldable pub fetchOf : ℕ → List ℕ → List ℕ → ℕ → Decoded
+fetchOf family code marks at =
+    cond (ltb at (length (codeRam family code)))
+    (cond (eqb (getD marks at 0) 1)
+    (checkMarks marks at (decodeOf family (drop at (codeRam family code))))
+    (Decoded.Refused Unreadable.NotUploaded))
+    (Decoded.Refused Unreadable.Empty)
+
+-- why nothing was fetched; an instruction has no reason, and stands for an empty place
+abbrev pub reasonOf : Decoded → Unreadable
+reasonOf (Decoded.Instruction instruction n) = Unreadable.Empty
+reasonOf (Decoded.Refused why) = why
+
+-- the place past an opcode of one byte, which lies in a code RAM of 512 bytes at most
+abbrev pub pastOpcode : ℕ → ℕ
+pastOpcode at = cond (ltb at 512) (at + 1) at
+
+-- a fetched instruction lies in the code RAM, takes 1 to 5 bytes, and its operands are ones that a byte can hold
+abbrev pub Inside : ℕ → List ℕ → ℕ → Decoded → Type 0
+Inside family code at (Decoded.Instruction instruction n) =
+    (0 < n) × (n ≤ 5) × (at + n ≤ length (codeRam family code)) × (operandsFit instruction ≡ true)
+Inside family code at (Decoded.Refused why) = Unit {0}
+
+pub record Fetches (family : ℕ) (code marks : List ℕ) (at : ℕ) (answer : Decoded) : Type 0 where
+  pub answered : answer ≡ fetchOf family code marks at
+  pub inside : Inside family code at answer

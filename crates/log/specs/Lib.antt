@@ -1,0 +1,5 @@
+pub mod Validity
+pub mod Left
+pub mod Wait
+pub mod Ewait
+pub mod Coverage

@@ -1,0 +1,22 @@
+// Reading a column, and what of a row is unused. A row past the end reads 0.
+ghost use mathlib.Core.Path.{_≡_};
+ghost use Prim.Native.Nat.{_-_};
+ghost use lib.ListN.{getD};
+
+pub fn clocks_at(clocks: &[u64], row: usize) -> u64
+    ensures { λ r. ⌜ r ≡ getD (now (clocks .entry)) row 0 ⌝ }
+{
+    if row < clocks.len() { clocks[row] } else { 0 }
+}
+
+pub fn mask_at(masks: &[u32], row: usize) -> u32
+    ensures { λ r. ⌜ r ≡ getD (now (masks .entry)) row 0 ⌝ }
+{
+    if row < masks.len() { masks[row] } else { 0 }
+}
+
+pub fn unused(clocks: u64, used: u64) -> u64
+    ensures { λ r. ⌜ r ≡ clocks - used ⌝ }
+{
+    if used < clocks { clocks - used } else { 0 }
+}

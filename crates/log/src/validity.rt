@@ -1,0 +1,57 @@
+// Which columns are a log, and which places lie in it.
+ghost use mathlib.Core.Path.{_≡_};
+ghost use Rattle.log.specs.Validity.{rowsInRange, validLog, validPlace};
+use crate::column::clocks_at;
+use crate::place::Place;
+
+const MAX_ROWS: usize = 1024;
+
+const MAX_CLOCKS: u64 = 281474976710656;
+
+// Whether every row has 1 to 2^48 clocks.
+fn rows_in_range(clocks: &[u64]) -> bool
+    ensures { λ r. ⌜ r ≡ rowsInRange (now (clocks .entry)) ⌝ }
+{
+    let mut row = 0;
+    while row < clocks.len() {
+        let c = clocks[row];
+        if c < 1 {
+            return false;
+        }
+        if MAX_CLOCKS < c {
+            return false;
+        }
+        row += 1;
+    }
+    true
+}
+
+// Whether the columns are a log: at most 1,024 rows, columns of equal length, clocks in range.
+pub fn valid_log<'a>(clocks: &'a [u64], known: &'a [u32], values: &'a [u32]) -> bool
+    ensures { λ r. ⌜ r ≡ validLog (now (clocks .entry)) (now (known .entry)) (now (values .entry)) ⌝ }
+{
+    if MAX_ROWS < clocks.len() {
+        return false;
+    }
+    if known.len() != clocks.len() {
+        return false;
+    }
+    if values.len() != clocks.len() {
+        return false;
+    }
+    rows_in_range(clocks)
+}
+
+// Whether the place lies in the log: in a row with clocks left, or at the log's end.
+pub fn valid_place(clocks: &[u64], at: Place) -> bool
+    ensures { λ r. ⌜ r ≡ validPlace (now (clocks .entry)) at ⌝ }
+{
+    let row = at.row;
+    if row < clocks.len() {
+        return at.used < clocks_at(clocks, row);
+    }
+    if row == clocks.len() {
+        return at.used == 0;
+    }
+    false
+}

@@ -1,0 +1,5 @@
+pub mod Shifts
+pub mod SlotLaws
+pub mod TurnLaws
+pub mod StepLaws
+pub mod TakenTurns

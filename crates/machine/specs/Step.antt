@@ -1,0 +1,49 @@
+-- One step of one slot (01, "Steps and time" and "Other refusals").
+use Prim.Native.Nat.{ℕ}
+use mathlib.Core.Bool.{Bool, cond, _&&_}
+use mathlib.Core.List.{List}
+use Rattle.families.specs.Family.{knownFamily}
+use Rattle.isa.specs.declared.addresses.CodeAddress.{CodeAddress}
+use Rattle.fetch.specs.Fetch.{fetchOf}
+use Rattle.log.specs.Validity.{validLog, validPlace}
+use Rattle.log.specs.declared.place.Place.{Place}
+use Rattle.machine.specs.Slot.{hasSlot, isRunning, slotOf, withSlot}
+use Rattle.machine.specs.Turn.{turnOf}
+use Rattle.machine.specs.declared.slots.Slot.{Slot}
+use Rattle.machine.specs.declared.slots.SlotName.{SlotName}
+use Rattle.machine.specs.declared.state.State.{State}
+use Rattle.machine.specs.declared.steps.Stepped.{Stepped}
+use Rattle.machine.specs.declared.steps.Unsteppable.{Unsteppable}
+use Rattle.machine.specs.declared.turn.Effect.{Effect}
+use Rattle.machine.specs.declared.turn.Turn.{Turn}
+
+-- a step without effect on the state and the place
+abbrev pub unmoved : State → Place → Effect → Stepped
+unmoved s p effect = record { state = s; place = p; effect = effect; waited = 0; searched = 0 }
+
+-- the state after a turn of the named slot
+abbrev pub afterTurn : State → SlotName → Turn → Stepped
+afterTurn s name t =
+    record { state = withSlot s name (t .slot) (t .flags); place = t .place; effect = t .effect; waited = t .waited; searched = t .searched }
+
+-- one instruction is fetched at IP and done; a slot that is idle, waiting, blocked or hung, or that the family lacks, is left alone
+unfoldable pub advanceOf : State → SlotName → List ℕ → List ℕ → List ℕ → Place → Stepped
+advanceOf s name clocks known values p =
+    let slot = slotOf s name in
+    cond (hasSlot (s .family) name && isRunning (slot .mode))
+    (afterTurn s name (turnOf (s .family) (s .enable) slot (s .flags) clocks known values p (fetchOf (s .family) (s .code) (s .marks) (slot .ip .0))))
+    (unmoved s p Effect.Nothing)
+
+-- 9 an unknown family, then 15 columns that are no log or a place outside it
+unfoldable pub stepOf : State → SlotName → List ℕ → List ℕ → List ℕ → Place → Stepped
+stepOf s name clocks known values p =
+    cond (knownFamily (s .family))
+    (cond (validLog clocks known values && validPlace clocks p)
+    (advanceOf s name clocks known values p)
+    (unmoved s p (Effect.Refused Unsteppable.Log)))
+    (unmoved s p (Effect.Refused Unsteppable.Family))
+
+-- the refusals' numbers in 01
+abbrev pub unsteppableNumber : Unsteppable → ℕ
+unsteppableNumber Unsteppable.Family = 9
+unsteppableNumber Unsteppable.Log = 15

@@ -1,0 +1,143 @@
+// One step of one slot.
+ghost use mathlib.Core.Path.{_≡_};
+ghost use mathlib.Core.Bool.{_&&_};
+ghost use Rattle.machine.specs.Slot.{hasSlot, isRunning};
+ghost use Rattle.machine.specs.Step.{afterTurn, unsteppableNumber};
+ghost use Rattle.machine.specs.Step.{unmoved as Step·unmoved};
+ghost use Rattle.log.specs.Validity.{validLog, validPlace};
+ghost use Rattle.machine.specs.Promises.{Advances, Steps};
+use crate::actions::action_of;
+use crate::slots::Mode;
+use crate::slots::SlotName;
+use crate::slots::has_slot;
+use crate::slots::is_running;
+use crate::state::State;
+use crate::state::slot_of;
+use crate::state::with_slot;
+use crate::time::elapse;
+use crate::turn::Effect;
+use crate::turn::Turn;
+use crate::turn::perform;
+use crate::turn::unfetched;
+use isa::Decoded;
+use log::Place;
+
+// Why a step is refused.
+pub enum Unsteppable {
+    Family,
+    Log,
+}
+
+pub struct Stepped {
+    pub state: State,
+    pub place: Place,
+    pub effect: Effect,
+    // clocks spent in a wait, and clocks that an ewait's search passed by
+    pub waited: u64,
+    pub searched: u64,
+}
+
+// The refusal's number.
+pub fn unsteppable_number(why: Unsteppable) -> u8
+    ensures { λ r. ⌜ r ≡ unsteppableNumber why ⌝ }
+{
+    match why {
+        Unsteppable::Family => 9,
+        Unsteppable::Log => 15,
+    }
+}
+
+// One step of the named slot, whatever the log is. On an idle, waiting, blocked or hung slot, and on one that the family
+// lacks, it changes nothing.
+pub fn advance<'a>(
+    state: State,
+    name: SlotName,
+    clocks: &'a [u64],
+    known: &'a [u32],
+    values: &'a [u32],
+    at: Place,
+) -> Stepped
+    ensures { λ r. ⌜ Advances state name (now (clocks .entry)) (now (known .entry)) (now (values .entry)) at r ⌝ }
+{
+    let slot = slot_of(state, name);
+    let mode = slot.mode;
+    if !can_run(state.family, name, mode) {
+        return unmoved(state, at, Effect::Nothing);
+    }
+    let ip = slot.ip.0;
+    let code = state.code;
+    let marks = state.marks;
+    let flags = state.flags;
+    let found = fetch::fetch(state.family, &code, &marks, ip);
+    let Decoded::Instruction(instruction, length) = found else {
+        let why = fetch::reason_of(found);
+        let next = fetch::past_opcode(ip);
+        let stray = unfetched(state.family, slot, flags, at, next, why);
+        return after_turn(state, name, stray);
+    };
+    let action = action_of(instruction);
+    let elapsed = elapse(action, clocks, known, values, at);
+    let turn = perform(state.enable, slot, flags, action, ip + length, elapsed);
+    after_turn(state, name, turn)
+}
+
+// One step of the named slot, if the family is known and the place lies in a log.
+pub fn step<'a>(
+    state: State,
+    name: SlotName,
+    clocks: &'a [u64],
+    known: &'a [u32],
+    values: &'a [u32],
+    at: Place,
+) -> Stepped
+    ensures { λ r. ⌜ Steps state name (now (clocks .entry)) (now (known .entry)) (now (values .entry)) at r ⌝ }
+{
+    if !families::known_family(state.family) {
+        return unmoved(state, at, Effect::Refused(Unsteppable::Family));
+    }
+    if !in_log(clocks, known, values, at) {
+        return unmoved(state, at, Effect::Refused(Unsteppable::Log));
+    }
+    advance(state, name, clocks, known, values, at)
+}
+
+fn can_run(family: u8, name: SlotName, mode: Mode) -> bool
+    ensures { λ r. ⌜ r ≡ (hasSlot family name && isRunning mode) ⌝ }
+{
+    has_slot(family, name) && is_running(mode)
+}
+
+fn in_log<'a>(clocks: &'a [u64], known: &'a [u32], values: &'a [u32], at: Place) -> bool
+    ensures { λ r. ⌜ r ≡ (validLog (now (clocks .entry)) (now (known .entry)) (now (values .entry)) && validPlace (now (clocks .entry)) at) ⌝ }
+{
+    log::valid_log(clocks, known, values) && log::valid_place(clocks, at)
+}
+
+fn unmoved(state: State, place: Place, effect: Effect) -> Stepped
+    ensures { λ r. ⌜ r ≡ Step·unmoved state place effect ⌝ }
+{
+    Stepped {
+        state,
+        place,
+        effect,
+        waited: 0,
+        searched: 0,
+    }
+}
+
+fn after_turn(state: State, name: SlotName, turn: Turn) -> Stepped
+    ensures { λ r. ⌜ r ≡ afterTurn state name turn ⌝ }
+{
+    let slot = turn.slot;
+    let flags = turn.flags;
+    let place = turn.place;
+    let effect = turn.effect;
+    let next = with_slot(state, name, slot, flags);
+    Stepped {
+        state: next,
+        place,
+        effect,
+        waited: turn.waited,
+        searched: turn.searched,
+    }
+}

@@ -1,0 +1,4 @@
+pub mod Comparison
+pub mod Patterns
+pub mod Refusals
+pub mod Readings

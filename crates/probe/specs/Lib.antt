@@ -1,0 +1,5 @@
+pub mod Pattern
+pub mod Voltage
+pub mod Refusal
+pub mod Reading
+pub mod Sampling
