@@ -20,3 +20,4 @@ pub mod ReplayLaws
 pub mod RangeLaws
 pub mod Turns
 pub mod Replaying
+mod Table

@@ -11,6 +11,32 @@ pub fn bytes(bytes: &[u8]) -> String {
     bytes.iter().map(|byte| format!("{byte:02x}")).collect()
 }
 
+/// Words of eight hex digits each with a space between; `-` for none.
+pub fn words(words: &[u32]) -> String {
+    spaced(words.iter().map(|word| format!("{word:08x}")).collect())
+}
+
+/// Decimals with a space between; `-` for none.
+pub fn numbers(numbers: &[u64]) -> String {
+    spaced(numbers.iter().map(u64::to_string).collect())
+}
+
+fn spaced(fields: Vec<String>) -> String {
+    if fields.is_empty() {
+        return "-".to_string();
+    }
+    fields.join(" ")
+}
+
+/// `yes` or `no`.
+pub fn yes_or_no(truth: bool) -> &'static str {
+    if truth {
+        "yes"
+    } else {
+        "no"
+    }
+}
+
 /// The answer's text, or the refusal by its number.
 pub fn answer(answer: Result<String, Refusal>) -> String {
     answer.unwrap_or_else(|refusal| format!("refused {}", refusal.number()))
