@@ -1,0 +1,13 @@
+-- Assumes nothing.
+use Rattle.host.specs.Access.{blankState}
+use mathlib.Core.Path.{refl}
+use borrow.Author.Needs.{needs}
+use Rattle.host.proofs.access.blank_state.Statement.{statement}
+use Rattle.host.proofs.access.blank_state.Tie as tie
+
+returns : tie.Need-returns
+unfolding blankState
+returns c = refl
+
+pub blank-state-spec : {M : Type 1} → statement M
+blank-state-spec = tie.close (tie.spec returns)

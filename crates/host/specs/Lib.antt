@@ -1,0 +1,8 @@
+pub mod Register
+pub mod Execution
+pub mod Entry
+pub mod Trigger
+pub mod Code
+pub mod Status
+pub mod Access
+pub mod Promises
