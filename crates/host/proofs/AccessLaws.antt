@@ -36,6 +36,10 @@ begins family e = record { answered = e; numbered = subst P (sym e) number }
     number : P (freshOf family)
     number = cond-elim P (knownFamily family) (λ u. simp u) (λ u. simp u)
 
+split : {A : Type 0} (b : Bool) → (b ≡ true → A) → (b ≡ false → A) → A
+split true f g = f refl
+split false f g = g refl
+
 -- taken where no slot executes or the write is an abort, and otherwise 28
 taken-free : (abort executing : Bool) → (abort || not executing) ≡ true → (executing && not abort) ≡ false
 taken-free true true h = refl
@@ -131,13 +135,15 @@ module _ (s : State) (address : MmioAddress) (word : ℕ) where
   write-law : Law (writeOf s address word)
   unfolding writeOf writeRefusal
   write-law =
-      cond-elim Law (knownFamily (s .family))
-      (λ u. cond-elim Law (isWritable register)
-      (λ v. cond-elim Law (isTaken s address word)
-      (λ w. record { numbered = simp (u, v, taken-free (isAbort address word) (someSlotExecutes s) w); unmoved = tt; spares = spares-write s register word })
-      (λ w. record { numbered = simp (u, v, held-refused (isAbort address word) (someSlotExecutes s) w); unmoved = refl; spares = spares-all s }))
-      (λ v. record { numbered = simp (u, v); unmoved = refl; spares = spares-all s }))
-      (λ u. record { numbered = simp u; unmoved = refl; spares = spares-all s })
+      split (knownFamily (s .family))
+      (λ u. split (isWritable register)
+      (λ v. split (isTaken s address word)
+      (λ w. simp (u, v, w) (record { numbered = simp (u, v, taken-free (isAbort address word) (someSlotExecutes s) w); unmoved = tt; spares = spares-write s register word }))
+      (λ w. simp (u, v, w) (record { numbered = simp (u, v, held-refused (isAbort address word) (someSlotExecutes s) w); unmoved = refl; spares = spares-all s })))
+      (λ v. split (isTaken s address word)
+      (λ w. simp (u, v, w) (record { numbered = simp (u, v); unmoved = refl; spares = spares-all s }))
+      (λ w. simp (u, v, w) (record { numbered = simp (u, v); unmoved = refl; spares = spares-all s }))))
+      (λ u. simp u (record { numbered = simp u; unmoved = refl; spares = spares-all s }))
 
   trigger-here : address .0 ≡ triggerAt → register ≡ Register.Trigger
   unfolding registerAt

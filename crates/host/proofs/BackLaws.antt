@@ -16,7 +16,7 @@ use Rattle.machine.specs.Flags.{flagsWord0, flagsWord1, flagsFromWords}
 use Rattle.machine.specs.declared.flags.Flags.{Flags}
 use Rattle.machine.specs.declared.state.State.{State}
 use Rattle.host.specs.Access.{afterWrite, controlWord, readingOf}
-use Rattle.host.specs.Code.{afterUpload, uploadedByte, codeWord}
+use Rattle.host.specs.Code.{fourMarks, afterUpload, uploadedByte, codeWord}
 use Rattle.host.specs.Entry.{entryBits}
 use Rattle.host.specs.Promises.{isReadable, keptBits}
 use Rattle.host.specs.Register.{InRoom, isWritable}
@@ -70,14 +70,11 @@ pub record Roomy (s : State) : Type 0 where
   pub code : length (s .code) ≡ 512
   pub marks : length (s .marks) ≡ 512
 
-abbrev ones : List ℕ
-ones = 1 ∷ 1 ∷ 1 ∷ 1 ∷ []
-
 module _ (s : State) (roomy : Roomy s) (at word : ℕ) (fits : at + 4 ≤ 512) where
-  byte-back : (k : ℕ) → getD (ones ++ drop (at + 4) (s .marks)) k 0 ≡ 1 → uploadedByte (afterUpload s at word) (at + k) ≡ getD (leBytes 4 word ++ drop (at + 4) (s .code)) k 0
+  byte-back : (k : ℕ) → getD (fourMarks ++ drop (at + 4) (s .marks)) k 0 ≡ 1 → uploadedByte (afterUpload s at word) (at + k) ≡ getD (leBytes 4 word ++ drop (at + 4) (s .code)) k 0
   unfolding uploadedByte afterUpload
   byte-back k h =
-      let m = stored (s .marks) ones at (omega (arith, roomy .marks)) k in
+      let m = stored (s .marks) fourMarks at (omega (arith, roomy .marks)) k in
       let c = stored (s .code) (leBytes 4 word) at (omega (arith, roomy .code)) k in
       rw (m, h) c
 

@@ -12,9 +12,12 @@ use Rattle.machine.specs.declared.state.State.{State}
 abbrev pub withCode : State → List ℕ → List ℕ → State
 withCode s code marks = record { family = s .family; code = code; marks = marks; flags = s .flags; enable = s .enable; «override_mode» = s .«override_mode»; entries = s .entries; «entries_high» = s .«entries_high»; a = s .a; b = s .b }
 
+abbrev pub fourMarks : List ℕ
+fourMarks = 1 ∷ 1 ∷ 1 ∷ 1 ∷ []
+
 -- a word uploads its four bytes, the lowest first, and marks them
 unfoldable pub afterUpload : State → ℕ → ℕ → State
-afterUpload s at word = withCode s (sets (s .code) at (leBytes 4 word)) (sets (s .marks) at (1 ∷ 1 ∷ 1 ∷ 1 ∷ []))
+afterUpload s at word = withCode s (sets (s .code) at (leBytes 4 word)) (sets (s .marks) at fourMarks)
 
 -- a byte reads as it was uploaded, and as 0 where it never was, whatever stands there
 unfoldable pub uploadedByte : State → ℕ → ℕ
