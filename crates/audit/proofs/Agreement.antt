@@ -8,28 +8,28 @@ use native.Mathlib.Omega.{arith}
 use lib.Dec.{eqb}
 use lib.ListN.{length, length-append}
 use Rattle.families.specs.Family.{pausesMemory}
-use Rattle.machine.specs.Action.{mergeOf}
-use Rattle.machine.specs.Flags.{overrides1, pausedOf}
-use Rattle.machine.specs.Slot.{slotOf}
+use Rattle.actions.specs.Action.{mergeOf}
+use Rattle.flags.specs.Flags.{overrides1, pausedOf}
+use Rattle.state.specs.Slot.{slotOf}
 use Rattle.machine.specs.Step.{afterTurn}
-use Rattle.machine.specs.Time.{elapsedOf}
-use Rattle.machine.specs.Turn.{dataAfter, flagsAfter, effectOf, performOf}
-use Rattle.machine.specs.declared.actions.Action.{Action}
-use Rattle.machine.specs.declared.actions.Part.{Part}
-use Rattle.machine.specs.declared.flags.Flags.{Flags}
-use Rattle.machine.specs.declared.slots.Mode.{Mode}
-use Rattle.machine.specs.declared.slots.Slot.{Slot}
-use Rattle.machine.specs.declared.slots.SlotName.{SlotName}
-use Rattle.machine.specs.declared.time.Elapsed.{Elapsed}
-use Rattle.machine.specs.declared.turn.Turn.{Turn}
-use Rattle.machine.proofs.SlotLaws.{slot-back, flags-back}
+use Rattle.turn.specs.Time.{elapsedOf}
+use Rattle.turn.specs.Turn.{dataAfter, flagsAfter, effectOf, performOf}
+use Rattle.actions.specs.declared.actions.Action.{Action}
+use Rattle.actions.specs.declared.actions.Part.{Part}
+use Rattle.flags.specs.declared.flags.Flags.{Flags}
+use Rattle.state.specs.declared.slots.Mode.{Mode}
+use Rattle.state.specs.declared.slots.Slot.{Slot}
+use Rattle.state.specs.declared.slots.SlotName.{SlotName}
+use Rattle.turn.specs.declared.time.Elapsed.{Elapsed}
+use Rattle.turn.specs.declared.turn.Turn.{Turn}
+use Rattle.state.proofs.SlotLaws.{slot-back, flags-back}
 use Rattle.audit.specs.Auditor.{isSet1, loadsBoth, knownData, knownPaused, pokeCount, knowNext}
 use Rattle.audit.specs.Demand3.{AllListed}
-use Rattle.audit.specs.Run.{Run, Write, wroteBy, noted}
+use Rattle.replay.specs.Run.{Run, Write, wroteBy, noted}
 use Rattle.audit.specs.declared.auditor.Knowledge.{Knowledge}
-use Rattle.audit.proofs.Scripts.{Script, Log, Formed, Reads}
+use Rattle.script.proofs.Scripts.{Script, Log, Formed, Reads}
 use Rattle.audit.proofs.FlagLaws.{flag-law}
-use Rattle.audit.proofs.Settled.{action-fetched}
+use Rattle.replay.proofs.Settled.{action-fetched}
 use Rattle.audit.proofs.Steady.{stepFrom, next, SteadyRun, next-performs, next-steady}
 use Rattle.audit.proofs.Lapse.{Lapse, lapse}
 use Rattle.audit.proofs.Judging.{heldAddr, Fine}

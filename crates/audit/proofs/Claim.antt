@@ -8,21 +8,21 @@ use lib.ListN.{getD}
 use Rattle.families.specs.Family.{codeSize}
 use Rattle.isa.proofs.Tests.{both-left, cond-elim}
 use Rattle.log.specs.Validity.{validLog}
-use Rattle.machine.specs.Flags.{flagsWord0, flagsWord1}
-use Rattle.machine.specs.Slot.{slotOf}
-use Rattle.machine.specs.declared.slots.SlotName.{SlotName}
-use Rattle.machine.specs.declared.state.State.{State}
+use Rattle.flags.specs.Flags.{flagsWord0, flagsWord1}
+use Rattle.state.specs.Slot.{slotOf}
+use Rattle.state.specs.declared.slots.SlotName.{SlotName}
+use Rattle.state.specs.declared.state.State.{State}
 use Rattle.audit.specs.Auditor.{knowNothing, verdictIn, auditOf}
 use Rattle.audit.specs.Demand3.{VerdictMeans, Demand3}
-use Rattle.audit.specs.Input.{scriptFits, rangesFit, inputFits}
-use Rattle.audit.specs.Replay.{toldOf, fullRun, replayOf, replayedRun}
-use Rattle.audit.specs.Run.{begun}
+use Rattle.script.specs.Input.{scriptFits, rangesFit, inputFits}
+use Rattle.replay.specs.Replay.{toldOf, fullRun, replayOf, replayedRun}
+use Rattle.replay.specs.Run.{begun}
 use Rattle.audit.specs.Start.{Start}
 use Rattle.audit.specs.declared.auditor.Knowledge.{Knowledge}
 use Rattle.audit.specs.declared.auditor.Verdict.{Verdict}
-use Rattle.audit.specs.declared.replays.ReplayAnswer.{ReplayAnswer}
-use Rattle.audit.proofs.Scripts.{Script, Log, fits-script, Auditable}
-use Rattle.audit.proofs.Runs.{run-snoc}
+use Rattle.replay.specs.declared.replays.ReplayAnswer.{ReplayAnswer}
+use Rattle.script.proofs.Scripts.{Script, Log, fits-script, Auditable}
+use Rattle.replay.proofs.Runs.{run-snoc}
 use Rattle.audit.proofs.Walk.{Walk, Ends, at-refused, at-bad, at-exit, Walked, audit-walks}
 use Rattle.audit.proofs.Soundness.{earlier, exit-step, sound}
 use Rattle.audit.proofs.WitnessLog.{actions, witnessLog, witness-valid, bounded, bounded-start, reach}

@@ -10,33 +10,33 @@ use lib.ListN.{length}
 use borrow.Author.Tests.{lt-ltb}
 use Rattle.families.specs.Family.{knownFamily, pausesMemory}
 use Rattle.isa.specs.declared.reader.Decoded.{Decoded}
-use Rattle.isa.specs.declared.reader.Unreadable.{Unreadable}
+use Rattle.refusals.specs.declared.refusals.Unreadable.{Unreadable}
 use Rattle.fetch.proofs.Places.{fetch-lies}
 use Rattle.log.specs.Ewait.{ewaitOf, OnReading}
 use Rattle.log.specs.declared.ewait.Released.{Released}
 use Rattle.log.proofs.EwaitLaws.{ewait-on-reading}
-use Rattle.machine.specs.Action.{mergeOf}
-use Rattle.machine.specs.Flags.{pausedOf}
-use Rattle.machine.specs.Slot.{isRunning, slotOf}
-use Rattle.machine.specs.Time.{afterEwait, elapsedOf}
-use Rattle.machine.specs.Turn.{performOf, unfetched}
-use Rattle.machine.specs.declared.actions.Action.{Action}
-use Rattle.machine.specs.declared.actions.Part.{Part}
-use Rattle.machine.specs.declared.slots.Mode.{Mode}
-use Rattle.machine.specs.declared.slots.SlotName.{SlotName}
+use Rattle.actions.specs.Action.{mergeOf}
+use Rattle.flags.specs.Flags.{pausedOf}
+use Rattle.state.specs.Slot.{isRunning, slotOf}
+use Rattle.turn.specs.Time.{afterEwait, elapsedOf}
+use Rattle.turn.specs.Turn.{performOf, unfetched}
+use Rattle.actions.specs.declared.actions.Action.{Action}
+use Rattle.actions.specs.declared.actions.Part.{Part}
+use Rattle.state.specs.declared.slots.Mode.{Mode}
+use Rattle.state.specs.declared.slots.SlotName.{SlotName}
 use Rattle.machine.specs.declared.steps.Stepped.{Stepped}
-use Rattle.machine.specs.declared.turn.Effect.{Effect}
-use Rattle.machine.proofs.SlotLaws.{slot-back, flags-back}
+use Rattle.turn.specs.declared.turn.Effect.{Effect}
+use Rattle.state.proofs.SlotLaws.{slot-back, flags-back}
 use Rattle.audit.specs.Auditor.{faultOf, canRelease, knowNothing}
 use Rattle.audit.specs.Demand3.{AtPlace, Fetchless, Witness, WriteDifferently, FaultMeans}
-use Rattle.audit.specs.Run.{Run, begun}
-use Rattle.audit.specs.declared.auditor.Fault.{Fault}
+use Rattle.replay.specs.Run.{Run, begun}
+use Rattle.refusals.specs.declared.refusals.Fault.{Fault}
 use Rattle.audit.specs.declared.auditor.KnownAddress.{KnownAddress}
 use Rattle.audit.specs.declared.auditor.Knowledge.{Knowledge}
 use Rattle.audit.proofs.Cases.{never}
-use Rattle.audit.proofs.Scripts.{Script, Log, Auditable, fetchAt, Reads}
-use Rattle.audit.proofs.Runs.{run-suc, run-snoc, run-add}
-use Rattle.audit.proofs.Settled.{settled-run}
+use Rattle.script.proofs.Scripts.{Script, Log, Auditable, fetchAt, Reads}
+use Rattle.replay.proofs.Runs.{run-suc, run-snoc, run-add}
+use Rattle.replay.proofs.Settled.{settled-run}
 use Rattle.audit.proofs.Steady.{stepFrom, next, steps, run-steady, SteadyRun, next-refused, next-performs, next-nothing, next-settled, next-steady}
 use Rattle.audit.proofs.Judging.{heldAddr, poke-addr, Blame}
 use Rattle.audit.proofs.Walk.{Walk}

@@ -6,9 +6,9 @@ use native.Mathlib.Omega.{arith}
 use lib.Dec.{eqb}
 use lib.Bits.{bitAnd, bitOr, bitXor, and-step, or-step, xor-add-and, and-shr, or-shr, xor-shr}
 use borrow.Author.Tests.{eqb-true, lt-ltb}
-use Rattle.machine.specs.Flags.{setBit, clearBit, enablesAfter, valuesAfter, changedFlags, overrides1}
-use Rattle.machine.specs.declared.actions.Change.{Change}
-use Rattle.machine.specs.declared.flags.Flags.{Flags}
+use Rattle.flags.specs.Flags.{setBit, clearBit, enablesAfter, valuesAfter, changedFlags, overrides1}
+use Rattle.flags.specs.declared.flags.Change.{Change}
+use Rattle.flags.specs.declared.flags.Flags.{Flags}
 use Rattle.audit.specs.Auditor.{isSet1}
 use Rattle.audit.proofs.Cases.{below-at}
 

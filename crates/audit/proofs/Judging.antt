@@ -6,16 +6,16 @@ use mathlib.Core.List.{List}
 use Rattle.families.specs.Family.{pausesMemory}
 use Rattle.isa.specs.declared.addresses.MmioAddress.{MmioAddress}
 use Rattle.isa.proofs.Tests.{cond-elim}
-use Rattle.machine.specs.Action.{mergeOf}
-use Rattle.machine.specs.Turn.{modeAfter, ipAfter, addrAfter, effectOf}
-use Rattle.machine.specs.declared.actions.Action.{Action}
-use Rattle.machine.specs.declared.actions.Part.{Part}
-use Rattle.machine.specs.declared.slots.Mode.{Mode}
+use Rattle.actions.specs.Action.{mergeOf}
+use Rattle.turn.specs.Turn.{modeAfter, ipAfter, addrAfter, effectOf}
+use Rattle.actions.specs.declared.actions.Action.{Action}
+use Rattle.actions.specs.declared.actions.Part.{Part}
+use Rattle.state.specs.declared.slots.Mode.{Mode}
 use Rattle.audit.specs.Auditor.{targetOf, judgePoke, canRelease, judgeOf, knownAddr}
 use Rattle.audit.specs.Demand3.{AllListed}
-use Rattle.audit.specs.Input.{listedIn}
-use Rattle.audit.specs.Run.{wroteBy}
-use Rattle.audit.specs.declared.auditor.Fault.{Fault}
+use Rattle.script.specs.Input.{listedIn}
+use Rattle.replay.specs.Run.{wroteBy}
+use Rattle.refusals.specs.declared.refusals.Fault.{Fault}
 use Rattle.audit.specs.declared.auditor.Judgement.{Judgement}
 use Rattle.audit.specs.declared.auditor.KnownAddress.{KnownAddress}
 use Rattle.audit.specs.declared.auditor.Knowledge.{Knowledge}

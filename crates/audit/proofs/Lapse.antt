@@ -13,12 +13,12 @@ use Rattle.log.specs.declared.ewait.Released.{Released}
 use Rattle.log.specs.declared.place.Place.{Place}
 use Rattle.log.proofs.LeftLaws.{row-within}
 use Rattle.log.proofs.WaitLaws.{cut-at-end}
-use Rattle.machine.specs.Time.{elapsedOf, afterEwait}
-use Rattle.machine.specs.Turn.{modeAfter, effectOf}
-use Rattle.machine.specs.declared.actions.Action.{Action}
-use Rattle.machine.specs.declared.slots.Mode.{Mode}
-use Rattle.machine.specs.declared.time.Elapsed.{Elapsed}
-use Rattle.machine.specs.declared.turn.Effect.{Effect}
+use Rattle.turn.specs.Time.{elapsedOf, afterEwait}
+use Rattle.turn.specs.Turn.{modeAfter, effectOf}
+use Rattle.actions.specs.declared.actions.Action.{Action}
+use Rattle.state.specs.declared.slots.Mode.{Mode}
+use Rattle.turn.specs.declared.time.Elapsed.{Elapsed}
+use Rattle.turn.specs.declared.turn.Effect.{Effect}
 use Rattle.audit.specs.Auditor.{waitLength}
 use Rattle.audit.proofs.Cases.{never}
 

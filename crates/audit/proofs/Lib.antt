@@ -1,9 +1,5 @@
 pub mod Cases
-pub mod Scripts
 pub mod FlagLaws
-pub mod Runs
-pub mod RunClocks
-pub mod Settled
 pub mod Steady
 pub mod Lapse
 pub mod Judging
@@ -14,10 +10,6 @@ pub mod WitnessLog
 pub mod Starts
 pub mod Faults
 pub mod Claim
-pub mod Alike
-pub mod Room
 pub mod ReplayLaws
-pub mod RangeLaws
 pub mod Turns
-pub mod Replaying
 mod Table

@@ -8,24 +8,25 @@ use lib.Dec.{leb}
 use Rattle.families.specs.Family.{codeSize}
 use Rattle.isa.proofs.Tests.{cond-elim}
 use Rattle.log.specs.Validity.{validLog}
-use Rattle.machine.specs.Flags.{flagsWord0, flagsWord1, flagsFromWords}
-use Rattle.machine.specs.Slot.{slotOf}
-use Rattle.machine.specs.declared.flags.Flags.{Flags}
-use Rattle.machine.specs.declared.slots.Mode.{Mode}
-use Rattle.machine.specs.declared.slots.SlotName.{SlotName}
-use Rattle.machine.specs.declared.state.State.{State}
-use Rattle.machine.proofs.SlotLaws.{has-a}
-use Rattle.audit.specs.Input.{scriptFits}
-use Rattle.audit.specs.Replay.{replayState, endingOf, toldOf, fullRun, replayedRun, replayOf, EndsRight}
-use Rattle.audit.specs.Run.{Run, begun, runFor}
+use Rattle.flags.specs.Flags.{flagsWord0, flagsWord1, flagsFromWords}
+use Rattle.state.specs.Slot.{slotOf}
+use Rattle.flags.specs.declared.flags.Flags.{Flags}
+use Rattle.state.specs.declared.slots.Mode.{Mode}
+use Rattle.state.specs.declared.slots.SlotName.{SlotName}
+use Rattle.state.specs.declared.state.State.{State}
+use Rattle.state.proofs.SlotLaws.{has-a}
+use Rattle.script.specs.Input.{scriptFits}
+use Rattle.replay.specs.Replay.{replayState, endingOf, toldOf, fullRun, replayedRun, replayOf, EndsRight}
+use Rattle.replay.specs.Run.{Run, begun, runFor}
 use Rattle.audit.specs.Start.{Start}
-use Rattle.audit.specs.declared.replays.Ending.{Ending}
-use Rattle.audit.specs.declared.replays.ReplayAnswer.{ReplayAnswer}
-use Rattle.audit.proofs.Alike.{Alike, alike-run}
-use Rattle.audit.proofs.RunClocks.{run-clocks}
-use Rattle.audit.proofs.Scripts.{Fits, fits-script}
-use Rattle.audit.proofs.Settled.{stops}
-use Rattle.audit.proofs.Starts.{start-fetches, filled-fetches}
+use Rattle.replay.specs.declared.replays.Ending.{Ending}
+use Rattle.replay.specs.declared.replays.ReplayAnswer.{ReplayAnswer}
+use Rattle.replay.proofs.Alike.{Alike, alike-run}
+use Rattle.replay.proofs.RunClocks.{run-clocks}
+use Rattle.script.proofs.Scripts.{Fits, fits-script}
+use Rattle.replay.proofs.Settled.{stops}
+use Rattle.replay.proofs.Filled.{filled-fetches}
+use Rattle.audit.proofs.Starts.{start-fetches}
 
 abbrev flagsOf : ℕ → ℕ → Flags
 flagsOf values enables = record { values = values; enables = enables }
@@ -90,37 +91,3 @@ replay-clause family code marks entry ranges fits name s start clocks known valu
       simp (fits, log) (ap ReplayAnswer.Ended (told-alike SlotName.A name clocks (fullRun SlotName.A clocks known values (replayed family code marks entry fits name s)) (fullRun name clocks known values s) alike)),
       alike .writes,
     )
-
--- ---- how a replay ends, and its sums
-
-stop-runs : (mode : Mode) → endingOf mode ≡ Ending.Stop → mode ≡ Mode.Running
-stop-runs Mode.Idle e = cc
-stop-runs Mode.Running e = refl
-stop-runs Mode.Waiting e = cc
-stop-runs Mode.Blocked e = cc
-stop-runs Mode.Hung e = cc
-
-module _ (family : ℕ) (code marks : List ℕ) (entry addr word flags0 flags1 : ℕ) (enable : Bool) (clocks known values : List ℕ) where
-  -- a slot that still runs at the end is one that the next step stops, and the sums make the log's total
-  pub replay-ends : scriptFits family code marks entry ≡ true → validLog clocks known values ≡ true
-      → EndsRight family code marks entry addr word flags0 flags1 enable clocks known values
-      (ReplayAnswer.Ended (toldOf SlotName.A clocks (replayedRun family code marks entry addr word flags0 flags1 enable clocks known values)))
-  replay-ends fits log =
-      let s = replayState family code marks entry addr word flags0 flags1 enable in
-      let r = replayedRun family code marks entry addr word flags0 flags1 enable clocks known values in
-      let known-family = fits-script family code marks entry fits .known in (
-        (λ e. stops SlotName.A clocks known values s known-family (has-a family known-family) log (stop-runs (slotOf (r .state) SlotName.A .mode) e)),
-        run-clocks clocks known values log SlotName.A s (suc (codeSize family)),
-      )
-
-  -- so does every answer of replay
-  pub replay-ends-right : (lent : ℕ)
-      → EndsRight family code marks entry addr word flags0 flags1 enable clocks known values (replayOf family code marks entry addr word flags0 flags1 enable clocks known values lent)
-  unfolding replayOf
-  replay-ends-right lent =
-      cond-elim P (scriptFits family code marks entry)
-      (λ f. cond-elim P (leb 340 lent) (λ _. cond-elim P (validLog clocks known values) (λ l. replay-ends f l) (λ _. tt)) (λ _. tt))
-      (λ _. tt)
-    where
-      P : ReplayAnswer → Type 0
-      P answer = EndsRight family code marks entry addr word flags0 flags1 enable clocks known values answer

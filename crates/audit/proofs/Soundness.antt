@@ -6,18 +6,18 @@ use mathlib.Core.Bool.{true, false, _&&_}
 use mathlib.Core.List.{append-nil}
 use native.Mathlib.Omega.{arith}
 use Rattle.families.specs.Family.{pausesMemory}
-use Rattle.machine.specs.Slot.{isRunning, slotOf}
-use Rattle.machine.specs.Turn.{effectOf, performOf}
-use Rattle.machine.specs.declared.actions.Action.{Action}
-use Rattle.machine.specs.declared.slots.SlotName.{SlotName}
-use Rattle.machine.proofs.SlotLaws.{slot-back, flags-back}
+use Rattle.state.specs.Slot.{isRunning, slotOf}
+use Rattle.turn.specs.Turn.{effectOf, performOf}
+use Rattle.actions.specs.declared.actions.Action.{Action}
+use Rattle.state.specs.declared.slots.SlotName.{SlotName}
+use Rattle.state.proofs.SlotLaws.{slot-back, flags-back}
 use Rattle.audit.specs.Auditor.{knowNext}
 use Rattle.audit.specs.Demand3.{AllListed, Orderly, Exact, Safe}
-use Rattle.audit.specs.Run.{Run, runFor}
+use Rattle.replay.specs.Run.{Run, runFor}
 use Rattle.audit.specs.declared.auditor.Knowledge.{Knowledge}
 use Rattle.audit.proofs.Cases.{never}
-use Rattle.audit.proofs.Scripts.{Script, Log, Reads}
-use Rattle.audit.proofs.Settled.{settled-run}
+use Rattle.script.proofs.Scripts.{Script, Log, Reads}
+use Rattle.replay.proofs.Settled.{settled-run}
 use Rattle.audit.proofs.Steady.{next, steps, SteadyRun, next-nothing, next-settled}
 use Rattle.audit.proofs.Walk.{Walk, here, more}
 use Rattle.audit.proofs.Agreement.{Agree, Held, performs, after-steady, one-step}

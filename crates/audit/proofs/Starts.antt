@@ -14,42 +14,27 @@ use Rattle.fetch.proofs.FetchLaws.{same-fetch}
 use Rattle.fetch.proofs.Places.{size-small}
 use Rattle.log.specs.Validity.{validLog}
 use Rattle.log.proofs.LeftLaws.{valid-row-start}
-use Rattle.machine.specs.Flags.{overrides1}
-use Rattle.machine.specs.Slot.{slotOf}
-use Rattle.machine.specs.declared.slots.SlotName.{SlotName}
-use Rattle.machine.specs.declared.state.State.{State}
-use Rattle.machine.proofs.SlotLaws.{has-a}
+use Rattle.flags.specs.Flags.{overrides1}
+use Rattle.state.specs.Slot.{slotOf}
+use Rattle.state.specs.declared.slots.SlotName.{SlotName}
+use Rattle.state.specs.declared.state.State.{State}
+use Rattle.state.proofs.SlotLaws.{has-a}
 use Rattle.audit.specs.Auditor.{knowNothing}
-use Rattle.audit.specs.Input.{marksPlain}
-use Rattle.audit.specs.Replay.{replayState}
-use Rattle.audit.specs.Run.{begun}
+use Rattle.script.specs.Input.{marksPlain}
+use Rattle.replay.specs.Replay.{replayState}
+use Rattle.replay.specs.Run.{begun}
 use Rattle.audit.specs.Start.{InType, Start}
-use Rattle.audit.proofs.Scripts.{Script, Log, Fits, Auditable}
+use Rattle.script.proofs.Scripts.{Script, Log, Fits, Auditable}
+use Rattle.replay.proofs.Filled.{filled-size, filled-marks, filled-code}
 use Rattle.audit.proofs.Steady.{SteadyRun}
 use Rattle.audit.proofs.Agreement.{Agree}
 
--- ---- what is fetched from a start, and from the script in arrays of 512 bytes
-
-filled-size : (l : List ℕ) → length l ≤ 512 → length (l ++ replicate (512 - length l) 0) ≡ 512
-filled-size l h = length-append l (replicate (512 - length l) 0) ∙ omega (arith, length-replicate {A = ℕ} (512 - length l) 0)
+-- ---- what is fetched from a start
 
 module _ (family : ℕ) (code marks : List ℕ) (entry : ℕ) (fit : Fits family code marks entry) where
   pub start-fetches : (name : SlotName) (s : State) → Start family code marks entry name s → (at : ℕ) → fetchOf family (s .code) (s .marks) at ≡ fetchOf family code marks at
   start-fetches name s start =
       same-fetch family code marks (s .code) (s .marks) (omega (arith, fit .code-size)) (omega (arith, size-small family, start .in-type .code-size)) (start .uploaded) (start .as-audited)
-
-  -- the script lies at the front of arrays that are filled up with 0
-  filled-marks : (i : ℕ) → i < codeSize family → eqb (getD (marks ++ replicate (512 - length marks) 0) i 0) 1 ≡ eqb (getD marks i 0) 1
-  filled-marks i h = ap (λ (m : ℕ). eqb m 1) (List·getD-append marks (replicate (512 - length marks) 0) 0 i (omega (arith, fit .marks-size)))
-
-  filled-code : (i : ℕ) → i < codeSize family → getD (code ++ replicate (512 - length code) 0) i 0 ≡ getD code i 0
-  filled-code i h = List·getD-append code (replicate (512 - length code) 0) 0 i (omega (arith, fit .code-size))
-
-  pub filled-fetches : (at : ℕ) → fetchOf family (code ++ replicate (512 - length code) 0) (marks ++ replicate (512 - length marks) 0) at ≡ fetchOf family code marks at
-  filled-fetches =
-      let size = size-small family in
-      same-fetch family code marks (code ++ replicate (512 - length code) 0) (marks ++ replicate (512 - length marks) 0)
-      (omega (arith, fit .code-size)) (omega (arith, filled-size code (omega (arith, fit .code-size)))) filled-marks (λ i h _. filled-code i h)
 
 -- ---- every start
 

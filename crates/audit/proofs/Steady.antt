@@ -4,23 +4,23 @@ use mathlib.Core.Path.{_≡_, ap, _∙_}
 use mathlib.Core.Bool.{true, false}
 use Rattle.families.specs.Family.{knownFamily}
 use Rattle.isa.specs.declared.reader.Decoded.{Decoded}
-use Rattle.isa.specs.declared.reader.Unreadable.{Unreadable}
+use Rattle.refusals.specs.declared.refusals.Unreadable.{Unreadable}
 use Rattle.fetch.specs.Fetch.{fetchOf}
 use Rattle.log.specs.Validity.{validLog, validPlace}
-use Rattle.machine.specs.Slot.{hasSlot, isRunning, slotOf}
+use Rattle.state.specs.Slot.{hasSlot, isRunning, slotOf}
 use Rattle.machine.specs.Step.{unmoved, afterTurn}
-use Rattle.machine.specs.Time.{elapsedOf}
-use Rattle.machine.specs.Turn.{performOf, unfetched, turnOf}
-use Rattle.machine.specs.declared.actions.Action.{Action}
-use Rattle.machine.specs.declared.slots.Mode.{Mode}
-use Rattle.machine.specs.declared.slots.SlotName.{SlotName}
+use Rattle.turn.specs.Time.{elapsedOf}
+use Rattle.turn.specs.Turn.{performOf, unfetched, turnOf}
+use Rattle.actions.specs.declared.actions.Action.{Action}
+use Rattle.state.specs.declared.slots.Mode.{Mode}
+use Rattle.state.specs.declared.slots.SlotName.{SlotName}
 use Rattle.machine.specs.declared.steps.Stepped.{Stepped}
-use Rattle.machine.specs.declared.turn.Effect.{Effect}
+use Rattle.turn.specs.declared.turn.Effect.{Effect}
 use Rattle.machine.proofs.StepLaws.{step-turns, step-rests}
-use Rattle.audit.specs.Run.{Run, fetchedBy, noted, nextStep, runFor}
-use Rattle.audit.proofs.Runs.{next-promises, run-elim}
-use Rattle.audit.proofs.Scripts.{Script, Log, fetchAt, Reads}
-use Rattle.audit.proofs.Settled.{Settled}
+use Rattle.replay.specs.Run.{Run, fetchedBy, noted, nextStep, runFor}
+use Rattle.replay.proofs.Runs.{next-promises, run-elim}
+use Rattle.script.proofs.Scripts.{Script, Log, fetchAt, Reads}
+use Rattle.replay.proofs.Settled.{Settled}
 
 module _ (name : SlotName) (log : Log) where
   abbrev pub stepFrom : Run → Stepped

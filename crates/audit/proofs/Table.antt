@@ -12,15 +12,15 @@ use Rattle.fetch.specs.Fetch.{allMarked, fetchOf}
 use Rattle.log.specs.Ewait.{hasReading, searchIn}
 use Rattle.log.specs.Validity.{validLog, validPlace}
 use Rattle.machine.specs.Step.{advanceOf, stepOf}
-use Rattle.machine.specs.Turn.{performOf}
+use Rattle.turn.specs.Turn.{performOf}
 use Rattle.audit.specs.Auditor.{canRelease, verdictIn, auditOf, faultAt}
-use Rattle.audit.specs.Input.{scriptFits, rangesFit}
-use Rattle.audit.specs.Replay.{replayOf}
-use Rattle.audit.specs.Run.{runFor}
-use Rattle.audit.specs.declared.auditor.Fault.{Fault}
+use Rattle.script.specs.Input.{scriptFits, rangesFit}
+use Rattle.replay.specs.Replay.{replayOf}
+use Rattle.replay.specs.Run.{runFor}
+use Rattle.refusals.specs.declared.refusals.Fault.{Fault}
 use Rattle.audit.specs.declared.auditor.Verdict.{Verdict}
-use Rattle.audit.specs.declared.replays.Ending.{Ending}
-use Rattle.audit.specs.declared.replays.ReplayAnswer.{ReplayAnswer}
+use Rattle.replay.specs.declared.replays.Ending.{Ending}
+use Rattle.replay.specs.declared.replays.ReplayAnswer.{ReplayAnswer}
 
 -- the bytes at place 0, 00 after them, all uploaded
 abbrev verdictOn : ℕ → List ℕ → ℕ → List ℕ → Verdict

@@ -10,14 +10,14 @@ use Rattle.families.specs.Family.{codeSize}
 use Rattle.isa.specs.declared.addresses.MmioAddress.{MmioAddress}
 use Rattle.isa.specs.declared.instructions.Instruction.{Instruction}
 use Rattle.isa.specs.declared.reader.Decoded.{Decoded}
-use Rattle.isa.specs.declared.reader.Unreadable.{Unreadable}
+use Rattle.refusals.specs.declared.refusals.Unreadable.{Unreadable}
 use Rattle.isa.proofs.Clocks.{wait-most}
 use Rattle.fetch.specs.Fetch.{codeRam, fetchOf}
 use Rattle.fetch.proofs.Places.{size-small}
-use Rattle.machine.specs.Action.{actionOf}
-use Rattle.machine.specs.declared.actions.Action.{Action}
+use Rattle.actions.specs.Action.{actionOf}
+use Rattle.actions.specs.declared.actions.Action.{Action}
 use Rattle.audit.specs.Auditor.{faultOf, judgeOf, pokeCount, waitLength, knowNext, knowNothing, passAt, faultAt, verdictIn}
-use Rattle.audit.specs.declared.auditor.Fault.{Fault}
+use Rattle.refusals.specs.declared.refusals.Fault.{Fault}
 use Rattle.audit.specs.declared.auditor.Judgement.{Judgement}
 use Rattle.audit.specs.declared.auditor.Knowledge.{Knowledge}
 use Rattle.audit.specs.declared.auditor.Verdict.{Verdict}

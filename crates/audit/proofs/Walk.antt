@@ -7,16 +7,16 @@ use lib.ListN.{getD}
 use Rattle.families.specs.Family.{codeSize, pausesMemory}
 use Rattle.isa.specs.declared.instructions.Instruction.{Instruction}
 use Rattle.isa.specs.declared.reader.Decoded.{Decoded}
-use Rattle.isa.specs.declared.reader.Unreadable.{Unreadable}
+use Rattle.refusals.specs.declared.refusals.Unreadable.{Unreadable}
 use Rattle.fetch.proofs.Places.{fetch-past}
-use Rattle.machine.specs.Action.{actionOf}
-use Rattle.machine.specs.declared.actions.Action.{Action}
+use Rattle.actions.specs.Action.{actionOf}
+use Rattle.actions.specs.declared.actions.Action.{Action}
 use Rattle.audit.specs.Auditor.{faultOf, judgeOf, knowNext, passAt, faultAt, verdictIn}
-use Rattle.audit.specs.declared.auditor.Fault.{Fault}
+use Rattle.refusals.specs.declared.refusals.Fault.{Fault}
 use Rattle.audit.specs.declared.auditor.Judgement.{Judgement}
 use Rattle.audit.specs.declared.auditor.Knowledge.{Knowledge}
 use Rattle.audit.specs.declared.auditor.Verdict.{Verdict}
-use Rattle.audit.proofs.Scripts.{Script, fetchAt, Reads, fetch-reads}
+use Rattle.script.proofs.Scripts.{Script, fetchAt, Reads, fetch-reads}
 use Rattle.audit.proofs.Judging.{Fine, Blame, Why, explain}
 
 module _ (x : Script) where

@@ -16,16 +16,16 @@ use Rattle.log.specs.declared.ewait.Released.{Released}
 use Rattle.log.specs.declared.place.Place.{Place}
 use Rattle.log.proofs.EwaitLaws.{FoundBy, search-finds}
 use Rattle.log.proofs.WaitLaws.{wait-in}
-use Rattle.machine.specs.Time.{afterEwait, elapsedOf}
-use Rattle.machine.specs.declared.actions.Action.{Action}
-use Rattle.machine.specs.declared.slots.SlotName.{SlotName}
-use Rattle.machine.specs.declared.state.State.{State}
-use Rattle.machine.specs.declared.time.Elapsed.{Elapsed}
+use Rattle.turn.specs.Time.{afterEwait, elapsedOf}
+use Rattle.actions.specs.declared.actions.Action.{Action}
+use Rattle.state.specs.declared.slots.SlotName.{SlotName}
+use Rattle.state.specs.declared.state.State.{State}
+use Rattle.turn.specs.declared.time.Elapsed.{Elapsed}
 use Rattle.audit.specs.Auditor.{canRelease, waitLength, knowNext, knowNothing}
-use Rattle.audit.specs.Run.{Run, begun, runFor}
+use Rattle.replay.specs.Run.{Run, begun, runFor}
 use Rattle.audit.specs.declared.auditor.Knowledge.{Knowledge}
 use Rattle.audit.proofs.Cases.{never, below-at}
-use Rattle.audit.proofs.Scripts.{Script, Log, Formed}
+use Rattle.script.proofs.Scripts.{Script, Log, Formed}
 use Rattle.audit.proofs.Steady.{steps}
 use Rattle.audit.proofs.Judging.{Fine}
 use Rattle.audit.proofs.Walk.{Walk, here, more}

@@ -3,35 +3,24 @@ use Prim.Native.Nat.{ℕ, zero, suc, _+_}
 use mathlib.Core.Bool.{Bool, true, false, cond, _&&_}
 use mathlib.Core.List.{List}
 use lib.Dec.{ltb, eqb}
+use Rattle.refusals.specs.Number.{faultNumber}
 use Rattle.families.specs.Family.{codeSize, pausesMemory}
 use Rattle.isa.specs.declared.addresses.CodeAddress.{CodeAddress}
 use Rattle.isa.specs.declared.addresses.MmioAddress.{MmioAddress}
 use Rattle.isa.specs.declared.instructions.Instruction.{Instruction}
 use Rattle.isa.specs.declared.reader.Decoded.{Decoded}
-use Rattle.isa.specs.declared.reader.Unreadable.{Unreadable}
+use Rattle.refusals.specs.declared.refusals.Unreadable.{Unreadable}
 use Rattle.fetch.specs.Fetch.{fetchOf}
-use Rattle.machine.specs.Action.{actionOf, mergeOf}
-use Rattle.machine.specs.declared.actions.Action.{Action}
-use Rattle.machine.specs.declared.actions.Change.{Change}
-use Rattle.machine.specs.declared.actions.Part.{Part}
-use Rattle.audit.specs.Input.{listedIn, inputFits}
-use Rattle.audit.specs.declared.auditor.Fault.{Fault}
+use Rattle.actions.specs.Action.{actionOf, mergeOf}
+use Rattle.actions.specs.declared.actions.Action.{Action}
+use Rattle.flags.specs.declared.flags.Change.{Change}
+use Rattle.actions.specs.declared.actions.Part.{Part}
+use Rattle.script.specs.Input.{listedIn, inputFits}
+use Rattle.refusals.specs.declared.refusals.Fault.{Fault}
 use Rattle.audit.specs.declared.auditor.Judgement.{Judgement}
 use Rattle.audit.specs.declared.auditor.KnownAddress.{KnownAddress}
 use Rattle.audit.specs.declared.auditor.Knowledge.{Knowledge}
 use Rattle.audit.specs.declared.auditor.Verdict.{Verdict}
-
--- the faults' numbers in 01
-abbrev pub faultNumber : Fault → ℕ
-faultNumber Fault.PastRam = 1
-faultNumber Fault.NotUploaded = 2
-faultNumber Fault.Unknown = 3
-faultNumber Fault.NoAddress = 4
-faultNumber Fault.HalfData = 5
-faultNumber Fault.Outside = 6
-faultNumber Fault.Unreleased = 7
-faultNumber Fault.Paused = 8
-faultNumber Fault.Input = 9
 
 -- a verdict's number: 0 for a pass
 abbrev pub verdictNumber : Verdict → ℕ

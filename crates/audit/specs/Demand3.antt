@@ -8,26 +8,26 @@ use lib.ListN.{length}
 use Rattle.families.specs.Family.{codeSize}
 use Rattle.isa.specs.declared.addresses.CodeAddress.{CodeAddress}
 use Rattle.isa.specs.declared.addresses.MmioAddress.{MmioAddress}
-use Rattle.isa.specs.declared.reader.Unreadable.{Unreadable}
+use Rattle.refusals.specs.declared.refusals.Unreadable.{Unreadable}
 use Rattle.log.specs.Validity.{validLog}
 use Rattle.log.specs.declared.place.Place.{Place}
-use Rattle.machine.specs.Flags.{pausedOf, flagsWord0, flagsWord1}
-use Rattle.machine.specs.Slot.{slotOf, withSlot}
-use Rattle.machine.specs.declared.flags.Flags.{Flags}
-use Rattle.machine.specs.declared.slots.Mode.{Mode}
-use Rattle.machine.specs.declared.slots.Slot.{Slot}
-use Rattle.machine.specs.declared.slots.SlotName.{SlotName}
-use Rattle.machine.specs.declared.state.State.{State}
+use Rattle.flags.specs.Flags.{pausedOf, flagsWord0, flagsWord1}
+use Rattle.state.specs.Slot.{slotOf, withSlot}
+use Rattle.flags.specs.declared.flags.Flags.{Flags}
+use Rattle.state.specs.declared.slots.Mode.{Mode}
+use Rattle.state.specs.declared.slots.Slot.{Slot}
+use Rattle.state.specs.declared.slots.SlotName.{SlotName}
+use Rattle.state.specs.declared.state.State.{State}
 use Rattle.machine.specs.declared.steps.Stepped.{Stepped}
-use Rattle.machine.specs.declared.steps.Unsteppable.{Unsteppable}
-use Rattle.machine.specs.declared.turn.Effect.{Effect}
-use Rattle.audit.specs.Input.{listedIn, inputFits}
-use Rattle.audit.specs.Run.{Run, Write, begun, nextStep, runFor}
-use Rattle.audit.specs.Replay.{toldOf, fullRun, replayOf, replayedRun}
+use Rattle.refusals.specs.declared.refusals.Unsteppable.{Unsteppable}
+use Rattle.turn.specs.declared.turn.Effect.{Effect}
+use Rattle.script.specs.Input.{listedIn, inputFits}
+use Rattle.replay.specs.Run.{Run, Write, begun, nextStep, runFor}
+use Rattle.replay.specs.Replay.{toldOf, fullRun, replayOf, replayedRun}
 use Rattle.audit.specs.Start.{Start}
-use Rattle.audit.specs.declared.auditor.Fault.{Fault}
+use Rattle.refusals.specs.declared.refusals.Fault.{Fault}
 use Rattle.audit.specs.declared.auditor.Verdict.{Verdict}
-use Rattle.audit.specs.declared.replays.ReplayAnswer.{ReplayAnswer}
+use Rattle.replay.specs.declared.replays.ReplayAnswer.{ReplayAnswer}
 
 -- every address written is listed
 abbrev pub AllListed : List ℕ → List Write → Type 0

@@ -8,13 +8,13 @@ use lib.Dec.{eqb}
 use Rattle.families.specs.Family.{codeSize}
 use Rattle.isa.specs.declared.addresses.CodeAddress.{CodeAddress}
 use Rattle.isa.specs.declared.addresses.MmioAddress.{MmioAddress}
-use Rattle.machine.specs.Flags.{pausedOf}
-use Rattle.machine.specs.Slot.{hasSlot, slotOf}
-use Rattle.machine.specs.declared.flags.Flags.{Flags}
-use Rattle.machine.specs.declared.slots.Mode.{Mode}
-use Rattle.machine.specs.declared.slots.Slot.{Slot}
-use Rattle.machine.specs.declared.slots.SlotName.{SlotName}
-use Rattle.machine.specs.declared.state.State.{State}
+use Rattle.flags.specs.Flags.{pausedOf}
+use Rattle.state.specs.Slot.{hasSlot, slotOf}
+use Rattle.flags.specs.declared.flags.Flags.{Flags}
+use Rattle.state.specs.declared.slots.Mode.{Mode}
+use Rattle.state.specs.declared.slots.Slot.{Slot}
+use Rattle.state.specs.declared.slots.SlotName.{SlotName}
+use Rattle.state.specs.declared.state.State.{State}
 
 -- the numbers in a slot and in a state are of their types: what every value of the code's types is
 pub record SlotInType (slot : Slot) : Type 0 where

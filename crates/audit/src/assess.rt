@@ -5,15 +5,15 @@ ghost use lib.Dec.{eqb};
 ghost use Rattle.families.specs.Family.{pausesMemory};
 ghost use Prim.Native.Nat.{_+_, _^_, _<_};
 ghost use Rattle.audit.specs.Auditor.{targetOf, judgePoke, canRelease, judgeOf, knownAddr, knownData, knownPaused, pokeCount, waitLength, loadsBoth, isSet1, knowNext, knowNothing};
-use crate::auditor::Fault;
 use crate::auditor::Judgement;
 use crate::auditor::Knowledge;
 use crate::auditor::KnownAddress;
-use crate::ranges::listed;
+use actions::Action;
+use actions::Part;
+use flags::Change;
 use isa::MmioAddress;
-use machine::Action;
-use machine::Change;
-use machine::Part;
+use refusals::Fault;
+use script::listed;
 
 // The flag whose override pauses memory.
 const FB_PAUSE: u8 = 16;
@@ -27,7 +27,7 @@ fn target_of(part: Part, word: u32, known: KnownAddress) -> KnownAddress
         Part::Low => match known {
             KnownAddress::Unset => KnownAddress::Unset,
             KnownAddress::At(address) => {
-                KnownAddress::At(MmioAddress(machine::merge(part, address.0, word)))
+                KnownAddress::At(MmioAddress(actions::merge(part, address.0, word)))
             }
         },
     }

@@ -2,39 +2,19 @@
 ghost use mathlib.Core.Path.{_≡_};
 ghost use mathlib.Core.Bool.{true};
 ghost use Rattle.families.specs.Family.{codeSize};
-ghost use Rattle.audit.specs.Input.{inputFits};
-ghost use Rattle.audit.specs.Auditor.{faultNumber, faultOf, knowNothing, verdictIn};
+ghost use Rattle.script.specs.Input.{inputFits};
+ghost use Rattle.audit.specs.Auditor.{faultOf, knowNothing, verdictIn};
 ghost use Rattle.audit.specs.Promises.{Audits};
 use crate::assess::judge;
 use crate::assess::know_next;
 use crate::assess::know_nothing;
-use crate::input::script_fits;
-use crate::ranges::ranges_fit;
 use isa::CodeAddress;
 use isa::Decoded;
 use isa::MmioAddress;
-use isa::Unreadable;
-
-pub enum Fault {
-    // a byte past the code RAM
-    PastRam,
-    // a byte never uploaded
-    NotUploaded,
-    // an unknown opcode
-    Unknown,
-    // addrlo with no addr before it
-    NoAddress,
-    // a poke with a half of DATA not set
-    HalfData,
-    // a poke outside every range
-    Outside,
-    // an ewait that nothing can release
-    Unreleased,
-    // exit with memory paused
-    Paused,
-    // what was handed in is no script with ranges
-    Input,
-}
+use refusals::Fault;
+use refusals::Unreadable;
+use script::ranges_fit;
+use script::script_fits;
 
 pub enum Verdict {
     Pass {
@@ -72,23 +52,6 @@ pub enum Judgement {
     Fine,
     Exit,
     Bad(Fault),
-}
-
-// The fault's number.
-pub fn fault_number(fault: Fault) -> u8
-    ensures { λ r. ⌜ r ≡ faultNumber fault ⌝ }
-{
-    match fault {
-        Fault::PastRam => 1,
-        Fault::NotUploaded => 2,
-        Fault::Unknown => 3,
-        Fault::NoAddress => 4,
-        Fault::HalfData => 5,
-        Fault::Outside => 6,
-        Fault::Unreleased => 7,
-        Fault::Paused => 8,
-        Fault::Input => 9,
-    }
 }
 
 // The verdict on a script; the ranges are firsts and lasts, one after the other.
@@ -135,7 +98,7 @@ fn walk<'a>(family: u8, code: &'a [u8], marks: &'a [u8], entry: usize, ranges: &
         let Decoded::Instruction(instruction, length) = found else {
             break Verdict::Fault(fault_of(fetch::reason_of(found)), CodeAddress(at));
         };
-        let action = machine::action_of(instruction);
+        let action = actions::action_of(instruction);
         let judgement = judge(family, ranges, action, known);
         match judgement {
             Judgement::Fine => {

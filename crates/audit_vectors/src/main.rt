@@ -110,7 +110,7 @@ pub(crate) fn listed(ranges: &[u32], address: u32) {
     show::word(b" ranges");
     show::masks(ranges);
     show::word(b" ");
-    show::yes(audit::listed(ranges, MmioAddress(address)));
+    show::yes(script::listed(ranges, MmioAddress(address)));
     show::word(b"\n");
 }
 
@@ -455,7 +455,7 @@ fn run<'a>(
     values: &'a [u32],
     lent: &mut [u32],
 ) {
-    let answer = audit::replay(
+    let answer = replay::replay(
         family,
         code,
         marks,

@@ -1,8 +1,8 @@
 // What the vector program prints, piece by piece, on standard output.
-use audit::Ending;
-use audit::ReplayAnswer;
-use audit::Replayed;
 use audit::Verdict;
+use replay::Ending;
+use replay::ReplayAnswer;
+use replay::Replayed;
 
 pub(crate) fn word(text: &[u8]) {
     io::write_all(1, text);
@@ -99,7 +99,7 @@ pub(crate) fn verdict(verdict: Verdict) {
             named(b" clocks ", clocks);
         }
         Verdict::Fault(fault, place) => {
-            named(b" verdict ", audit::fault_number(fault) as u64);
+            named(b" verdict ", refusals::fault_number(fault) as u64);
             named(b" place ", place.0 as u64);
         }
     }
@@ -115,7 +115,7 @@ pub(crate) fn outcome(answer: ReplayAnswer, lent: &[u32]) {
             entries(lent, shown(replayed.writes));
         }
         ReplayAnswer::Refused(why) => {
-            named(b" refused ", audit::unreplayable_number(why) as u64);
+            named(b" refused ", refusals::unreplayable_number(why) as u64);
             word(b" lent");
             entries(lent, 2);
         }

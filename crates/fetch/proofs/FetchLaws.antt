@@ -14,7 +14,7 @@ use Rattle.isa.specs.Opcode.{opcodeAt, sizeOf, isUnknown}
 use Rattle.isa.specs.Reader.{readAs, decodeOf}
 use Rattle.isa.specs.declared.opcodes.Opcode.{Opcode}
 use Rattle.isa.specs.declared.reader.Decoded.{Decoded}
-use Rattle.isa.specs.declared.reader.Unreadable.{Unreadable}
+use Rattle.refusals.specs.declared.refusals.Unreadable.{Unreadable}
 use Rattle.isa.proofs.Reading.{same-read}
 use Rattle.fetch.specs.Fetch.{codeRam, allMarked, checkMarks, fetchOf}
 use Rattle.fetch.proofs.Marks.{marked-at}

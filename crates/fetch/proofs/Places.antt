@@ -16,7 +16,7 @@ use Rattle.isa.specs.Writer.{opcodeOf, onFamily, operandsFit, spell, encodeOf}
 use Rattle.isa.specs.declared.instructions.Instruction.{Instruction}
 use Rattle.isa.specs.declared.opcodes.Opcode.{Opcode}
 use Rattle.isa.specs.declared.reader.Decoded.{Decoded}
-use Rattle.isa.specs.declared.reader.Unreadable.{Unreadable}
+use Rattle.refusals.specs.declared.refusals.Unreadable.{Unreadable}
 use Rattle.isa.specs.declared.writer.Encoded.{Encoded}
 use Rattle.isa.proofs.Codec.{one-spelling}
 use Rattle.isa.proofs.Tests.{cond-elim, by-family-elim}

@@ -11,7 +11,7 @@ use Rattle.isa.specs.Reader.{decodeOf}
 use Rattle.isa.specs.Writer.{operandsFit}
 use Rattle.isa.specs.declared.instructions.Instruction.{Instruction}
 use Rattle.isa.specs.declared.reader.Decoded.{Decoded}
-use Rattle.isa.specs.declared.reader.Unreadable.{Unreadable}
+use Rattle.refusals.specs.declared.refusals.Unreadable.{Unreadable}
 
 -- the family's code RAM: bytes past its size are no part of it, whatever holds them
 abbrev pub codeRam : ℕ → List ℕ → List ℕ

@@ -3,7 +3,7 @@ ghost use mathlib.Core.Path.{_≡_};
 ghost use lib.ListN.{length, getD};
 ghost use Rattle.fetch.specs.Fetch.{allMarked, checkMarks, codeRam, reasonOf, pastOpcode, Fetches};
 use isa::Decoded;
-use isa::Unreadable;
+use refusals::Unreadable;
 
 // The most bytes that a family's code RAM has.
 const MAX_CODE: usize = 512;

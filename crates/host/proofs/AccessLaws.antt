@@ -7,15 +7,15 @@ use Rattle.families.specs.Family.{knownFamily}
 use Rattle.isa.proofs.Tests.{cond-elim}
 use Rattle.isa.specs.declared.addresses.CodeAddress.{CodeAddress}
 use Rattle.isa.specs.declared.addresses.MmioAddress.{MmioAddress}
-use Rattle.machine.specs.Slot.{slotOf, withSlot}
-use Rattle.machine.specs.declared.slots.Mode.{Mode}
-use Rattle.machine.specs.declared.slots.Slot.{Slot}
-use Rattle.machine.specs.declared.slots.SlotName.{SlotName}
-use Rattle.machine.specs.declared.state.State.{State}
+use Rattle.state.specs.Slot.{slotOf, withSlot}
+use Rattle.state.specs.declared.slots.Mode.{Mode}
+use Rattle.state.specs.declared.slots.Slot.{Slot}
+use Rattle.state.specs.declared.slots.SlotName.{SlotName}
+use Rattle.state.specs.declared.state.State.{State}
 use Rattle.host.specs.Access.{freshOf, done, refused, afterWrite, isAbort, isTaken, writeOf, readingOf, readOf}
 use Rattle.host.specs.Code.{afterUpload}
 use Rattle.host.specs.Entry.{entryPoint}
-use Rattle.host.specs.Execution.{someSlotExecutes}
+use Rattle.state.specs.Execution.{someSlotExecutes}
 use Rattle.host.specs.Promises.{outcomeNumber, readingNumber, freshRefusal, writeRefusal, isReadable, readRefusal, keptBits, Unmoved, Spares, Stops, Begins, HostWrites, HostReads}
 use Rattle.host.specs.Register.{triggerAt, registerAt, isWritable}
 use Rattle.host.specs.Trigger.{isStart, slotNamed, startedAt, aborted, afterTrigger}
@@ -24,7 +24,7 @@ use Rattle.host.proofs.RegisterLaws.{register-in-room}
 use Rattle.host.specs.declared.access.Access.{Access}
 use Rattle.host.specs.declared.access.Outcome.{Outcome}
 use Rattle.host.specs.declared.access.Reading.{Reading}
-use Rattle.host.specs.declared.refusals.Inaccessible.{Inaccessible}
+use Rattle.refusals.specs.declared.refusals.Inaccessible.{Inaccessible}
 use Rattle.host.specs.declared.registers.Register.{Register}
 
 pub begins : (family : ℕ) {t : Access} → t ≡ freshOf family → Begins family t

@@ -12,9 +12,9 @@ use Rattle.families.specs.Family.{knownFamily}
 use Rattle.isa.proofs.Tests.{cond-elim}
 use Rattle.isa.specs.Writer.{leBytes}
 use Rattle.isa.specs.declared.addresses.CodeAddress.{CodeAddress}
-use Rattle.machine.specs.Flags.{flagsWord0, flagsWord1, flagsFromWords}
-use Rattle.machine.specs.declared.flags.Flags.{Flags}
-use Rattle.machine.specs.declared.state.State.{State}
+use Rattle.flags.specs.Flags.{flagsWord0, flagsWord1, flagsFromWords}
+use Rattle.flags.specs.declared.flags.Flags.{Flags}
+use Rattle.state.specs.declared.state.State.{State}
 use Rattle.host.specs.Access.{afterWrite, controlWord, readingOf}
 use Rattle.host.specs.Code.{fourMarks, afterUpload, uploadedByte, codeWord}
 use Rattle.host.specs.Entry.{entryBits}
@@ -22,7 +22,7 @@ use Rattle.host.specs.Promises.{isReadable, keptBits}
 use Rattle.host.specs.Register.{InRoom, isWritable}
 use Rattle.host.specs.Status.{bitIf}
 use Rattle.host.specs.declared.access.Reading.{Reading}
-use Rattle.host.specs.declared.refusals.Inaccessible.{Inaccessible}
+use Rattle.refusals.specs.declared.refusals.Inaccessible.{Inaccessible}
 use Rattle.host.specs.declared.registers.Register.{Register}
 
 never : {A : Type 0} → false ≡ true → A

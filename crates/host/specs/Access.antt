@@ -6,23 +6,23 @@ use lib.ListN.{replicate}
 use Rattle.families.specs.Family.{knownFamily}
 use Rattle.isa.specs.declared.addresses.CodeAddress.{CodeAddress}
 use Rattle.isa.specs.declared.addresses.MmioAddress.{MmioAddress}
-use Rattle.machine.specs.Flags.{flagsWord0, flagsWord1, flagsFromWords}
-use Rattle.machine.specs.Slot.{withSlot}
-use Rattle.machine.specs.declared.flags.Flags.{Flags}
-use Rattle.machine.specs.declared.slots.Mode.{Mode}
-use Rattle.machine.specs.declared.slots.Slot.{Slot}
-use Rattle.machine.specs.declared.slots.SlotName.{SlotName}
-use Rattle.machine.specs.declared.state.State.{State}
+use Rattle.flags.specs.Flags.{flagsWord0, flagsWord1, flagsFromWords}
+use Rattle.state.specs.Slot.{withSlot}
+use Rattle.flags.specs.declared.flags.Flags.{Flags}
+use Rattle.state.specs.declared.slots.Mode.{Mode}
+use Rattle.state.specs.declared.slots.Slot.{Slot}
+use Rattle.state.specs.declared.slots.SlotName.{SlotName}
+use Rattle.state.specs.declared.state.State.{State}
 use Rattle.host.specs.Code.{afterUpload, codeWord}
 use Rattle.host.specs.Entry.{entryBits}
-use Rattle.host.specs.Execution.{someSlotExecutes}
+use Rattle.state.specs.Execution.{someSlotExecutes}
 use Rattle.host.specs.Register.{triggerAt, registerAt, isWritable}
 use Rattle.host.specs.Status.{bitIf, statusWord}
 use Rattle.host.specs.Trigger.{isStart, afterTrigger}
 use Rattle.host.specs.declared.access.Access.{Access}
 use Rattle.host.specs.declared.access.Outcome.{Outcome}
 use Rattle.host.specs.declared.access.Reading.{Reading}
-use Rattle.host.specs.declared.refusals.Inaccessible.{Inaccessible}
+use Rattle.refusals.specs.declared.refusals.Inaccessible.{Inaccessible}
 use Rattle.host.specs.declared.registers.Register.{Register}
 
 abbrev pub done : State → Access
@@ -116,9 +116,3 @@ readingOf s Register.Unlisted = Reading.Refused Inaccessible.Register
 -- a read is refused for the family first
 unfoldable pub readOf : State → MmioAddress → Reading
 readOf s address = cond (knownFamily (s .family)) (readingOf s (registerAt (s .family) address)) (Reading.Refused Inaccessible.Family)
-
--- the refusals' numbers in 01
-abbrev pub inaccessibleNumber : Inaccessible → ℕ
-inaccessibleNumber Inaccessible.Family = 9
-inaccessibleNumber Inaccessible.Register = 27
-inaccessibleNumber Inaccessible.Executing = 28

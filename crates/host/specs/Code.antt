@@ -6,7 +6,7 @@ use lib.Dec.{eqb}
 use lib.ListN.{getD}
 use lib.Seq.{sets}
 use Rattle.isa.specs.Writer.{leBytes}
-use Rattle.machine.specs.declared.state.State.{State}
+use Rattle.state.specs.declared.state.State.{State}
 
 -- the state with other code and marks
 abbrev pub withCode : State → List ℕ → List ℕ → State

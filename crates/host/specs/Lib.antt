@@ -1,5 +1,4 @@
 pub mod Register
-pub mod Execution
 pub mod Entry
 pub mod Trigger
 pub mod Code

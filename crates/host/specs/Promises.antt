@@ -5,20 +5,21 @@ use mathlib.Core.Bool.{Bool, true, false, cond, not, _&&_}
 use Rattle.families.specs.Family.{knownFamily}
 use Rattle.isa.specs.declared.addresses.MmioAddress.{MmioAddress}
 use Rattle.isa.specs.declared.addresses.CodeAddress.{CodeAddress}
-use Rattle.machine.specs.Slot.{slotOf}
-use Rattle.machine.specs.declared.slots.Mode.{Mode}
-use Rattle.machine.specs.declared.slots.Slot.{Slot}
-use Rattle.machine.specs.declared.slots.SlotName.{SlotName}
-use Rattle.machine.specs.declared.state.State.{State}
-use Rattle.host.specs.Access.{freshOf, writeOf, readOf, isAbort, inaccessibleNumber}
+use Rattle.state.specs.Slot.{slotOf}
+use Rattle.state.specs.declared.slots.Mode.{Mode}
+use Rattle.state.specs.declared.slots.Slot.{Slot}
+use Rattle.state.specs.declared.slots.SlotName.{SlotName}
+use Rattle.state.specs.declared.state.State.{State}
+use Rattle.host.specs.Access.{freshOf, writeOf, readOf, isAbort}
+use Rattle.refusals.specs.Number.{inaccessibleNumber}
 use Rattle.host.specs.Entry.{entryBits}
-use Rattle.host.specs.Execution.{someSlotExecutes}
+use Rattle.state.specs.Execution.{someSlotExecutes}
 use Rattle.host.specs.Register.{triggerAt, registerAt, isWritable}
 use Rattle.host.specs.Trigger.{isStart, slotNamed}
 use Rattle.host.specs.declared.access.Access.{Access}
 use Rattle.host.specs.declared.access.Outcome.{Outcome}
 use Rattle.host.specs.declared.access.Reading.{Reading}
-use Rattle.host.specs.declared.refusals.Inaccessible.{Inaccessible}
+use Rattle.refusals.specs.declared.refusals.Inaccessible.{Inaccessible}
 use Rattle.host.specs.declared.registers.Register.{Register}
 
 -- the number that an outcome stands for, 0 where nothing was refused

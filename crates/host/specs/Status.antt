@@ -4,11 +4,11 @@ use mathlib.Core.Bool.{Bool, true, false, cond, not, _&&_}
 use lib.Dec.{eqb}
 use Rattle.families.specs.Family.{unknownHangs}
 use Rattle.isa.specs.declared.addresses.CodeAddress.{CodeAddress}
-use Rattle.machine.specs.Slot.{hasSlot, isIdle}
-use Rattle.machine.specs.declared.slots.Mode.{Mode}
-use Rattle.machine.specs.declared.slots.Slot.{Slot}
-use Rattle.machine.specs.declared.slots.SlotName.{SlotName}
-use Rattle.machine.specs.declared.state.State.{State}
+use Rattle.state.specs.Slot.{hasSlot, isIdle}
+use Rattle.state.specs.declared.slots.Mode.{Mode}
+use Rattle.state.specs.declared.slots.Slot.{Slot}
+use Rattle.state.specs.declared.slots.SlotName.{SlotName}
+use Rattle.state.specs.declared.state.State.{State}
 use Rattle.host.specs.Register.{isHigh}
 
 -- a bit of this weight, lit or not

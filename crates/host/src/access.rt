@@ -7,8 +7,6 @@ ghost use Rattle.host.specs.Promises.{Begins, HostWrites, HostReads};
 use crate::code::after_upload;
 use crate::code::code_word;
 use crate::entries::entry_bits;
-use crate::execution::some_slot_executes;
-use crate::refusals::Inaccessible;
 use crate::registers::Register;
 use crate::registers::TRIGGER;
 use crate::registers::is_writable;
@@ -17,12 +15,14 @@ use crate::status::bit_if;
 use crate::status::status_word;
 use crate::triggers::after_trigger;
 use crate::triggers::is_start;
+use flags::Flags;
 use isa::CodeAddress;
 use isa::MmioAddress;
-use machine::Flags;
-use machine::Mode;
-use machine::Slot;
-use machine::State;
+use refusals::Inaccessible;
+use state::Mode;
+use state::Slot;
+use state::State;
+use state::some_slot_executes;
 
 pub enum Outcome {
     Done,
@@ -118,7 +118,7 @@ fn with_entries(state: State, low: u32, high: u32) -> State
 fn with_flags(state: State, word_0: u32, word_1: u32) -> State
     ensures { λ r. ⌜ r ≡ withFlags state «word_0» «word_1» ⌝ }
 {
-    let flags = machine::flags_from_words(word_0, word_1);
+    let flags = flags::flags_from_words(word_0, word_1);
     let mut next = state;
     next.flags = flags;
     next
@@ -135,8 +135,8 @@ fn after_write(state: State, register: Register, word: u32) -> State
         Register::EntryPoint => with_entries(state, word, state.entries_high),
         Register::Status => state,
         Register::Trigger => after_trigger(state, word),
-        Register::Flags0 => with_flags(state, word, machine::flags_word_1(flags)),
-        Register::Flags1 => with_flags(state, machine::flags_word_0(flags), word),
+        Register::Flags0 => with_flags(state, word, flags::flags_word_1(flags)),
+        Register::Flags1 => with_flags(state, flags::flags_word_0(flags), word),
         Register::EntryPointHigh => with_entries(state, state.entries, entry_bits(word)),
         Register::Code(at) => after_upload(state, at.0, word),
         Register::Events => state,
@@ -198,8 +198,8 @@ fn reading_of(state: State, register: Register) -> Reading
         Register::EntryPoint => Reading::Word(state.entries),
         Register::Status => Reading::Word(status_word(state)),
         Register::Trigger => Reading::Refused(Inaccessible::Register),
-        Register::Flags0 => Reading::Word(machine::flags_word_0(flags)),
-        Register::Flags1 => Reading::Word(machine::flags_word_1(flags)),
+        Register::Flags0 => Reading::Word(flags::flags_word_0(flags)),
+        Register::Flags1 => Reading::Word(flags::flags_word_1(flags)),
         Register::EntryPointHigh => Reading::Word(entry_bits(state.entries_high)),
         Register::Code(at) => Reading::Word(code_word(state, at.0)),
         Register::Events => Reading::Refused(Inaccessible::Register),

@@ -2,7 +2,7 @@
 ghost use mathlib.Core.Path.{_≡_};
 ghost use Prim.Native.Nat.{_+_, _*_, _≤_};
 ghost use Rattle.host.specs.Code.{uploadedByte, codeWord, afterUpload};
-use machine::State;
+use state::State;
 
 // The state with four bytes uploaded from a place on.
 pub(crate) fn after_upload(state: State, at: usize, word: u32) -> State

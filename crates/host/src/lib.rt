@@ -2,8 +2,6 @@
 mod access;
 mod code;
 mod entries;
-mod execution;
-mod refusals;
 mod registers;
 mod status;
 mod triggers;
@@ -14,7 +12,3 @@ pub use access::Reading;
 pub use access::fresh_state;
 pub use access::read_register;
 pub use access::write_register;
-pub use execution::executes;
-pub use execution::some_slot_executes;
-pub use refusals::Inaccessible;
-pub use refusals::inaccessible_number;

@@ -3,10 +3,10 @@ ghost use mathlib.Core.Path.{_≡_};
 ghost use Prim.Native.Nat.{_≤_, _<_};
 ghost use Rattle.host.specs.Status.{bitIf, isHung, showsHang, showsBit8, slotStatus, statusWord};
 use crate::registers::is_high;
-use machine::Mode;
-use machine::Slot;
-use machine::SlotName;
-use machine::State;
+use state::Mode;
+use state::Slot;
+use state::SlotName;
+use state::State;
 
 // A bit of this weight, lit or not.
 pub(crate) fn bit_if(lit: bool, weight: u32) -> u32
@@ -50,7 +50,7 @@ fn slot_status(family: u8, slot: Slot) -> u32
     let mode = slot.mode;
     let ip = slot.ip.0;
     let low = (ip % 256) as u32;
-    let executing = bit_if(!machine::is_idle(mode), 256);
+    let executing = bit_if(!state::is_idle(mode), 256);
     let hung = bit_if(shows_hang(family, mode), 512);
     let high = bit_if(shows_bit_8(family, ip), 1024);
     low + executing + hung + high
@@ -62,7 +62,7 @@ pub(crate) fn status_word(state: State) -> u32
     let family = state.family;
     let a = state.a;
     let b = state.b;
-    if machine::has_slot(family, SlotName::B) {
+    if state::has_slot(family, SlotName::B) {
         slot_status(family, a) + 65536 * slot_status(family, b)
     } else {
         slot_status(family, a)

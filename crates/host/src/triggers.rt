@@ -4,10 +4,10 @@ ghost use Rattle.host.specs.Trigger.{isStart, slotNamed, startedAt, afte
 ghost use Rattle.host.specs.Trigger.{aborted as Trigger·aborted};
 use crate::entries::entry_point;
 use isa::CodeAddress;
-use machine::Mode;
-use machine::Slot;
-use machine::SlotName;
-use machine::State;
+use state::Mode;
+use state::Slot;
+use state::SlotName;
+use state::State;
 
 pub(crate) fn is_start(word: u32) -> bool
     ensures { λ r. ⌜ r ≡ isStart word ⌝ }
@@ -19,7 +19,7 @@ pub(crate) fn is_start(word: u32) -> bool
 fn slot_named(family: u8, word: u32) -> SlotName
     ensures { λ r. ⌜ r ≡ slotNamed family word ⌝ }
 {
-    if machine::has_slot(family, SlotName::B) && word / 2 % 2 == 0 {
+    if state::has_slot(family, SlotName::B) && word / 2 % 2 == 0 {
         SlotName::B
     } else {
         SlotName::A
@@ -57,7 +57,7 @@ pub(crate) fn after_trigger(state: State, word: u32) -> State
     ensures { λ r. ⌜ r ≡ afterTrigger state word ⌝ }
 {
     let name = slot_named(state.family, word);
-    let slot = machine::slot_of(state, name);
+    let slot = state::slot_of(state, name);
     let flags = state.flags;
     if is_start(word) {
         let entry = entry_point(
@@ -66,8 +66,8 @@ pub(crate) fn after_trigger(state: State, word: u32) -> State
             state.entries_high,
             word / 4 % 4,
         );
-        machine::with_slot(state, name, started_at(slot, entry), flags)
+        state::with_slot(state, name, started_at(slot, entry), flags)
     } else {
-        machine::with_slot(state, name, aborted(slot), flags)
+        state::with_slot(state, name, aborted(slot), flags)
     }
 }

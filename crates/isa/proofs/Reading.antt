@@ -12,7 +12,7 @@ use Rattle.isa.specs.Opcode.{opcodeAt, sizeOf, isUnknown}
 use Rattle.isa.specs.Reader.{readAs, decodeOf, decodedNumber, readRefusal}
 use Rattle.isa.specs.declared.opcodes.Opcode.{Opcode}
 use Rattle.isa.specs.declared.reader.Decoded.{Decoded}
-use Rattle.isa.specs.declared.reader.Unreadable.{Unreadable}
+use Rattle.refusals.specs.declared.refusals.Unreadable.{Unreadable}
 use Rattle.isa.proofs.Bytes.{two, four}
 use Rattle.isa.proofs.Tests.{cond-elim}
 

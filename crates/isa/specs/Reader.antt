@@ -4,13 +4,14 @@ use mathlib.Core.Bool.{cond, not}
 use mathlib.Core.List.{List, [], _∷_}
 use lib.ListN.{length, getD, take, drop}
 use lib.Dec.{leb, ltb, eqb}
+use Rattle.refusals.specs.Number.{unreadableNumber}
 use Rattle.families.specs.Family.{knownFamily}
 use Rattle.isa.specs.Opcode.{opcodeAt, sizeOf, isUnknown}
 use Rattle.isa.specs.declared.addresses.MmioAddress.{MmioAddress}
 use Rattle.isa.specs.declared.instructions.Instruction.{Instruction}
 use Rattle.isa.specs.declared.opcodes.Opcode.{Opcode}
 use Rattle.isa.specs.declared.reader.Decoded.{Decoded}
-use Rattle.isa.specs.declared.reader.Unreadable.{Unreadable}
+use Rattle.refusals.specs.declared.refusals.Unreadable.{Unreadable}
 
 -- the number whose little-endian bytes are the list
 abbrev pub le : List ℕ → ℕ
@@ -44,14 +45,6 @@ decodeOf family bytes =
     cond (leb (sizeOf opcode) (length bytes)) (readAs opcode bytes) (Decoded.Refused Unreadable.Short))
     (Decoded.Refused Unreadable.Empty))
     (Decoded.Refused Unreadable.Family)
-
--- the refusals' numbers in 01
-abbrev pub unreadableNumber : Unreadable → ℕ
-unreadableNumber Unreadable.Family = 9
-unreadableNumber Unreadable.Empty = 1
-unreadableNumber Unreadable.Unknown = 3
-unreadableNumber Unreadable.Short = 1
-unreadableNumber Unreadable.NotUploaded = 2
 
 -- the number that the reader's answer stands for, 0 where it is an instruction
 abbrev pub decodedNumber : Decoded → ℕ

@@ -4,6 +4,7 @@ use mathlib.Core.Bool.{Bool, true, false, cond, not}
 use mathlib.Core.List.{List, [], _∷_, _++_}
 use lib.ListN.{length, drop}
 use lib.Dec.{leb, ltb}
+use Rattle.refusals.specs.Number.{unwritableNumber}
 use Rattle.families.specs.Family.{knownFamily}
 use Rattle.isa.specs.Wait.{waitFits}
 use Rattle.isa.specs.declared.addresses.MmioAddress.{MmioAddress}
@@ -11,7 +12,7 @@ use Rattle.isa.specs.declared.instructions.Instruction.{Instruction}
 use Rattle.isa.specs.declared.opcodes.Opcode.{Opcode}
 use Rattle.isa.specs.declared.writer.Encoded.{Encoded}
 use Rattle.isa.specs.declared.writer.Spelling.{Spelling}
-use Rattle.isa.specs.declared.writer.Unwritable.{Unwritable}
+use Rattle.refusals.specs.declared.refusals.Unwritable.{Unwritable}
 
 abbrev pub opcodeOf : Instruction → Opcode
 opcodeOf (Instruction.Wait length shift) = Opcode.Wait
@@ -85,13 +86,6 @@ encodeOf family instruction lent =
 abbrev pub writtenOver : List ℕ → Instruction → Encoded → List ℕ
 writtenOver old instruction (Encoded.Length n) = spell instruction ++ drop n old
 writtenOver old instruction (Encoded.Refused why) = old
-
--- the refusals' numbers in 01
-abbrev pub unwritableNumber : Unwritable → ℕ
-unwritableNumber Unwritable.Family = 9
-unwritableNumber Unwritable.NotOnFamily = 11
-unwritableNumber Unwritable.Operand = 12
-unwritableNumber Unwritable.Room = 13
 
 -- the number that the writer's answer stands for, 0 where it wrote
 abbrev pub encodedNumber : Encoded → ℕ

@@ -2,7 +2,7 @@
 ghost use mathlib.Core.Path.{_≡_};
 ghost use Prim.Native.Nat.{_+_, _*_};
 ghost use lib.ListN.{getD};
-ghost use Rattle.isa.specs.Reader.{operand, readAs, unreadableNumber};
+ghost use Rattle.isa.specs.Reader.{operand, readAs};
 ghost use Rattle.isa.specs.Codec.{Reads};
 use crate::addresses::MmioAddress;
 use crate::instructions::Instruction;
@@ -10,34 +10,12 @@ use crate::opcodes::Opcode;
 use crate::opcodes::opcode_at;
 use crate::opcodes::size_of;
 use families::known_family;
-
-// Why there is no instruction.
-pub enum Unreadable {
-    Family,
-    Empty,
-    Unknown,
-    Short,
-    // a byte that was never uploaded: said of code RAM, and never by the reader itself
-    NotUploaded,
-}
+use refusals::Unreadable;
 
 pub enum Decoded {
     // the instruction, and how many bytes it takes
     Instruction(Instruction, usize),
     Refused(Unreadable),
-}
-
-// The refusal's number.
-pub fn unreadable_number(why: Unreadable) -> u8
-    ensures { λ r. ⌜ r ≡ unreadableNumber why ⌝ }
-{
-    match why {
-        Unreadable::Family => 9,
-        Unreadable::Empty => 1,
-        Unreadable::Unknown => 3,
-        Unreadable::Short => 1,
-        Unreadable::NotUploaded => 2,
-    }
 }
 
 // The instruction at the start of bytes.

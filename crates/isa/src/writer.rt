@@ -4,20 +4,13 @@ ghost use Prim.Native.Nat.{_≤_};
 ghost use mathlib.Core.Bool.{true};
 ghost use mathlib.Core.List.{_∷_, _++_};
 ghost use lib.ListN.{length, drop};
-ghost use Rattle.isa.specs.Writer.{opcodeOf, onFamily, operandsFit, leBytes, spell, spellingBytes, unwritableNumber};
+ghost use Rattle.isa.specs.Writer.{opcodeOf, onFamily, operandsFit, leBytes, spell, spellingBytes};
 ghost use Rattle.isa.specs.Codec.{InType, Writes};
 use crate::instructions::Instruction;
 use crate::instructions::wait_fits;
 use crate::opcodes::Opcode;
 use families::known_family;
-
-// Why the instruction is not written.
-pub enum Unwritable {
-    Family,
-    NotOnFamily,
-    Operand,
-    Room,
-}
+use refusals::Unwritable;
 
 pub enum Encoded {
     // how many bytes were written
@@ -30,18 +23,6 @@ pub enum Spelling {
     One(u8),
     Three(u8, u8, u8),
     Five(u8, u8, u8, u8, u8),
-}
-
-// The refusal's number.
-pub fn unwritable_number(why: Unwritable) -> u8
-    ensures { λ r. ⌜ r ≡ unwritableNumber why ⌝ }
-{
-    match why {
-        Unwritable::Family => 9,
-        Unwritable::NotOnFamily => 11,
-        Unwritable::Operand => 12,
-        Unwritable::Room => 13,
-    }
 }
 
 // Writes the instruction's bytes at the start of out, whose other bytes stay as they were.

@@ -74,7 +74,7 @@ pub(crate) fn read(family: u8, bytes: &[u8]) {
         }
         Decoded::Refused(why) => {
             show::word(b"refused ");
-            show::number(isa::unreadable_number(why) as u64);
+            show::number(refusals::unreadable_number(why) as u64);
         }
     }
     show::word(b"\n");
@@ -143,7 +143,7 @@ fn write_into(family: u8, instruction: Instruction, lent: &mut [u8]) {
         }
         Encoded::Refused(why) => {
             show::word(b" refused ");
-            show::number(isa::unwritable_number(why) as u64);
+            show::number(refusals::unwritable_number(why) as u64);
         }
     }
     show::word(b" lent ");

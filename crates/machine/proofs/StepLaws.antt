@@ -8,24 +8,24 @@ use borrow.Author.Tests.{lt-ltb}
 use Rattle.families.specs.Family.{knownFamily}
 use Rattle.isa.specs.declared.reader.Decoded.{Decoded}
 use Rattle.isa.proofs.Tests.{both-right, cond-elim}
-use Rattle.isa.specs.declared.reader.Unreadable.{Unreadable}
+use Rattle.refusals.specs.declared.refusals.Unreadable.{Unreadable}
 use Rattle.fetch.specs.Fetch.{fetchOf, pastOpcode}
 use Rattle.fetch.proofs.Places.{unknown-within}
 use Rattle.log.specs.Validity.{validLog, validPlace}
 use Rattle.log.specs.declared.place.Place.{Place}
-use Rattle.machine.specs.Slot.{hasSlot, isRunning, slotOf}
+use Rattle.state.specs.Slot.{hasSlot, isRunning, slotOf}
 use Rattle.machine.specs.Step.{unmoved, afterTurn, advanceOf, stepOf}
-use Rattle.machine.specs.Turn.{sameTurn, unfetchedAt, unfetched, turnOf}
+use Rattle.turn.specs.Turn.{sameTurn, unfetchedAt, unfetched, turnOf}
 use Rattle.machine.specs.Promises.{Keeps, Passes, Advances, Steps, effectNumber, stepRefusal}
-use Rattle.machine.specs.declared.flags.Flags.{Flags}
-use Rattle.machine.specs.declared.slots.Mode.{Mode}
-use Rattle.machine.specs.declared.slots.SlotName.{SlotName}
-use Rattle.machine.specs.declared.slots.Slot.{Slot}
-use Rattle.machine.specs.declared.state.State.{State}
+use Rattle.flags.specs.declared.flags.Flags.{Flags}
+use Rattle.state.specs.declared.slots.Mode.{Mode}
+use Rattle.state.specs.declared.slots.SlotName.{SlotName}
+use Rattle.state.specs.declared.slots.Slot.{Slot}
+use Rattle.state.specs.declared.state.State.{State}
 use Rattle.machine.specs.declared.steps.Stepped.{Stepped}
-use Rattle.machine.specs.declared.steps.Unsteppable.{Unsteppable}
-use Rattle.machine.specs.declared.turn.Effect.{Effect}
-use Rattle.machine.specs.declared.turn.Turn.{Turn}
+use Rattle.refusals.specs.declared.refusals.Unsteppable.{Unsteppable}
+use Rattle.turn.specs.declared.turn.Effect.{Effect}
+use Rattle.turn.specs.declared.turn.Turn.{Turn}
 use Rattle.machine.proofs.TurnLaws.{turn-clocks, turn-place, turn-taken}
 
 -- ---- what a step is

@@ -6,17 +6,17 @@ use mathlib.Core.List.{List}
 use Rattle.isa.specs.declared.addresses.CodeAddress.{CodeAddress}
 use Rattle.isa.specs.declared.instructions.Instruction.{Instruction}
 use Rattle.isa.specs.declared.reader.Decoded.{Decoded}
-use Rattle.isa.specs.declared.reader.Unreadable.{Unreadable}
+use Rattle.refusals.specs.declared.refusals.Unreadable.{Unreadable}
 use Rattle.fetch.specs.Fetch.{fetchOf, pastOpcode}
 use Rattle.log.specs.declared.place.Place.{Place}
-use Rattle.machine.specs.Action.{actionOf}
-use Rattle.machine.specs.Time.{elapsedOf}
-use Rattle.machine.specs.Turn.{performAt, performOf, unfetchedAt, turnOf}
-use Rattle.machine.specs.declared.actions.Action.{Action}
-use Rattle.machine.specs.declared.flags.Flags.{Flags}
-use Rattle.machine.specs.declared.slots.Slot.{Slot}
-use Rattle.machine.specs.declared.time.Elapsed.{Elapsed}
-use Rattle.machine.specs.declared.turn.Turn.{Turn}
+use Rattle.actions.specs.Action.{actionOf}
+use Rattle.turn.specs.Time.{elapsedOf}
+use Rattle.turn.specs.Turn.{performAt, performOf, unfetchedAt, turnOf}
+use Rattle.actions.specs.declared.actions.Action.{Action}
+use Rattle.flags.specs.declared.flags.Flags.{Flags}
+use Rattle.state.specs.declared.slots.Slot.{Slot}
+use Rattle.turn.specs.declared.time.Elapsed.{Elapsed}
+use Rattle.turn.specs.declared.turn.Turn.{Turn}
 use Rattle.machine.proofs.StepLaws.{unfetched-past}
 
 module _ (family : ℕ) (code marks : List ℕ) (enable : Bool) (slot : Slot) (flags : Flags) (clocks known values : List ℕ) (p : Place) where

@@ -6,7 +6,7 @@ use mathlib.Core.List.{List}
 use native.Mathlib.Omega.{arith}
 use lib.ListN.{length}
 use Rattle.isa.specs.declared.reader.Decoded.{Decoded}
-use Rattle.isa.specs.declared.reader.Unreadable.{Unreadable}
+use Rattle.refusals.specs.declared.refusals.Unreadable.{Unreadable}
 use Rattle.log.specs.Ewait.{ewaitOf, passedBy, leftAfter}
 use Rattle.log.specs.Left.{leftOf}
 use Rattle.log.specs.Validity.{validLog, validPlace}
@@ -15,13 +15,13 @@ use Rattle.log.specs.declared.place.Place.{Place}
 use Rattle.log.proofs.EwaitLaws.{ReleasedWithin, ewait-valid, ewait-spent}
 use Rattle.log.proofs.LeftLaws.{valid-at-end, left-end, left-fits}
 use Rattle.log.proofs.WaitLaws.{wait-valid, wait-spent}
-use Rattle.machine.specs.Action.{actionOf}
-use Rattle.machine.specs.Time.{afterEwait, elapsedOf}
-use Rattle.machine.specs.Turn.{effectOf, performOf, unfetched, turnOf}
+use Rattle.actions.specs.Action.{actionOf}
+use Rattle.turn.specs.Time.{afterEwait, elapsedOf}
+use Rattle.turn.specs.Turn.{effectOf, performOf, unfetched, turnOf}
 use Rattle.machine.specs.Promises.{effectNumber}
-use Rattle.machine.specs.declared.actions.Action.{Action}
-use Rattle.machine.specs.declared.flags.Flags.{Flags}
-use Rattle.machine.specs.declared.slots.Slot.{Slot}
+use Rattle.actions.specs.declared.actions.Action.{Action}
+use Rattle.flags.specs.declared.flags.Flags.{Flags}
+use Rattle.state.specs.declared.slots.Slot.{Slot}
 
 module _ (clocks : List ℕ) where
   -- what was left is what was waited, what was passed by and what is left then

@@ -5,18 +5,19 @@ use mathlib.Core.Bool.{true, cond, not, _&&_}
 use mathlib.Core.List.{List}
 use Rattle.families.specs.Family.{knownFamily}
 use Rattle.isa.specs.declared.addresses.MmioAddress.{MmioAddress}
-use Rattle.isa.specs.declared.reader.Unreadable.{Unreadable}
+use Rattle.refusals.specs.declared.refusals.Unreadable.{Unreadable}
 use Rattle.log.specs.Left.{leftOf}
 use Rattle.log.specs.Validity.{validLog, validPlace}
 use Rattle.log.specs.declared.place.Place.{Place}
-use Rattle.machine.specs.Slot.{slotOf}
-use Rattle.machine.specs.Step.{advanceOf, stepOf, unsteppableNumber}
-use Rattle.machine.specs.declared.slots.Slot.{Slot}
-use Rattle.machine.specs.declared.slots.SlotName.{SlotName}
-use Rattle.machine.specs.declared.state.State.{State}
+use Rattle.state.specs.Slot.{slotOf}
+use Rattle.refusals.specs.Number.{unsteppableNumber}
+use Rattle.machine.specs.Step.{advanceOf, stepOf}
+use Rattle.state.specs.declared.slots.Slot.{Slot}
+use Rattle.state.specs.declared.slots.SlotName.{SlotName}
+use Rattle.state.specs.declared.state.State.{State}
 use Rattle.machine.specs.declared.steps.Stepped.{Stepped}
-use Rattle.machine.specs.declared.steps.Unsteppable.{Unsteppable}
-use Rattle.machine.specs.declared.turn.Effect.{Effect}
+use Rattle.refusals.specs.declared.refusals.Unsteppable.{Unsteppable}
+use Rattle.turn.specs.declared.turn.Effect.{Effect}
 
 abbrev pub otherOf : SlotName → SlotName
 otherOf SlotName.A = SlotName.B

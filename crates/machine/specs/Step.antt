@@ -7,15 +7,15 @@ use Rattle.isa.specs.declared.addresses.CodeAddress.{CodeAddress}
 use Rattle.fetch.specs.Fetch.{fetchOf}
 use Rattle.log.specs.Validity.{validLog, validPlace}
 use Rattle.log.specs.declared.place.Place.{Place}
-use Rattle.machine.specs.Slot.{hasSlot, isRunning, slotOf, withSlot}
-use Rattle.machine.specs.Turn.{turnOf}
-use Rattle.machine.specs.declared.slots.Slot.{Slot}
-use Rattle.machine.specs.declared.slots.SlotName.{SlotName}
-use Rattle.machine.specs.declared.state.State.{State}
+use Rattle.state.specs.Slot.{hasSlot, isRunning, slotOf, withSlot}
+use Rattle.turn.specs.Turn.{turnOf}
+use Rattle.state.specs.declared.slots.Slot.{Slot}
+use Rattle.state.specs.declared.slots.SlotName.{SlotName}
+use Rattle.state.specs.declared.state.State.{State}
 use Rattle.machine.specs.declared.steps.Stepped.{Stepped}
-use Rattle.machine.specs.declared.steps.Unsteppable.{Unsteppable}
-use Rattle.machine.specs.declared.turn.Effect.{Effect}
-use Rattle.machine.specs.declared.turn.Turn.{Turn}
+use Rattle.refusals.specs.declared.refusals.Unsteppable.{Unsteppable}
+use Rattle.turn.specs.declared.turn.Effect.{Effect}
+use Rattle.turn.specs.declared.turn.Turn.{Turn}
 
 -- a step without effect on the state and the place
 abbrev pub unmoved : State → Place → Effect → Stepped
@@ -42,8 +42,3 @@ stepOf s name clocks known values p =
     (advanceOf s name clocks known values p)
     (unmoved s p (Effect.Refused Unsteppable.Log)))
     (unmoved s p (Effect.Refused Unsteppable.Family))
-
--- the refusals' numbers in 01
-abbrev pub unsteppableNumber : Unsteppable → ℕ
-unsteppableNumber Unsteppable.Family = 9
-unsteppableNumber Unsteppable.Log = 15

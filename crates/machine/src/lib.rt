@@ -1,40 +1,6 @@
-// The step machine of the hardware sequencer: its state, and one step of one slot.
-mod actions;
-mod flags;
-mod slots;
-mod state;
+// The step machine of the hardware sequencer: one step of one slot.
 mod steps;
-mod time;
-mod turn;
 
-pub use actions::Action;
-pub use actions::Change;
-pub use actions::Part;
-pub use actions::action_of;
-pub use actions::merge;
-pub use flags::Flags;
-pub use flags::changed_flags;
-pub use flags::flags_from_words;
-pub use flags::flags_word_0;
-pub use flags::flags_word_1;
-pub use flags::memory_paused;
-pub use slots::Mode;
-pub use slots::Slot;
-pub use slots::SlotName;
-pub use slots::has_slot;
-pub use slots::is_idle;
-pub use slots::is_running;
-pub use state::State;
-pub use state::slot_of;
-pub use state::with_slot;
 pub use steps::Stepped;
-pub use steps::Unsteppable;
 pub use steps::advance;
 pub use steps::step;
-pub use steps::unsteppable_number;
-pub use time::Elapsed;
-pub use time::elapse;
-pub use turn::Effect;
-pub use turn::Turn;
-pub use turn::perform;
-pub use turn::unfetched;

@@ -1,32 +1,27 @@
 // One step of one slot.
 ghost use mathlib.Core.Path.{_≡_};
 ghost use mathlib.Core.Bool.{_&&_};
-ghost use Rattle.machine.specs.Slot.{hasSlot, isRunning};
-ghost use Rattle.machine.specs.Step.{afterTurn, unsteppableNumber};
+ghost use Rattle.state.specs.Slot.{hasSlot, isRunning};
+ghost use Rattle.machine.specs.Step.{afterTurn};
 ghost use Rattle.machine.specs.Step.{unmoved as Step·unmoved};
 ghost use Rattle.log.specs.Validity.{validLog, validPlace};
 ghost use Rattle.machine.specs.Promises.{Advances, Steps};
-use crate::actions::action_of;
-use crate::slots::Mode;
-use crate::slots::SlotName;
-use crate::slots::has_slot;
-use crate::slots::is_running;
-use crate::state::State;
-use crate::state::slot_of;
-use crate::state::with_slot;
-use crate::time::elapse;
-use crate::turn::Effect;
-use crate::turn::Turn;
-use crate::turn::perform;
-use crate::turn::unfetched;
+use actions::action_of;
 use isa::Decoded;
 use log::Place;
-
-// Why a step is refused.
-pub enum Unsteppable {
-    Family,
-    Log,
-}
+use refusals::Unsteppable;
+use state::Mode;
+use state::SlotName;
+use state::State;
+use state::has_slot;
+use state::is_running;
+use state::slot_of;
+use state::with_slot;
+use turn::Effect;
+use turn::Turn;
+use turn::elapse;
+use turn::perform;
+use turn::unfetched;
 
 pub struct Stepped {
     pub state: State,
@@ -35,16 +30,6 @@ pub struct Stepped {
     // clocks spent in a wait, and clocks that an ewait's search passed by
     pub waited: u64,
     pub searched: u64,
-}
-
-// The refusal's number.
-pub fn unsteppable_number(why: Unsteppable) -> u8
-    ensures { λ r. ⌜ r ≡ unsteppableNumber why ⌝ }
-{
-    match why {
-        Unsteppable::Family => 9,
-        Unsteppable::Log => 15,
-    }
 }
 
 // One step of the named slot, whatever the log is. On an idle, waiting, blocked or hung slot, and on one that the family

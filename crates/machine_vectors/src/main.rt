@@ -6,10 +6,10 @@ use host::Reading;
 use isa::CodeAddress;
 use isa::MmioAddress;
 use log::Place;
-use machine::Mode;
-use machine::Slot;
-use machine::SlotName;
-use machine::State;
+use state::Mode;
+use state::Slot;
+use state::SlotName;
+use state::State;
 
 // What a vector works on: a state, and a place in the log.
 pub struct Bench {
@@ -65,7 +65,10 @@ fn read(bench: Bench, address: u32) -> Bench {
     let reading = host::read_register(state, MmioAddress(address));
     match reading {
         Reading::Word(word) => show::hex(b" ", word),
-        Reading::Refused(why) => show::count(b" refused ", host::inaccessible_number(why) as u64),
+        Reading::Refused(why) => show::count(
+            b" refused ",
+            refusals::inaccessible_number(why) as u64,
+        ),
     }
     show::word(b"\n");
     bench
@@ -149,7 +152,7 @@ pub(crate) fn force(bench: Bench, slot: u8, number: u8, ip: usize) -> Bench {
     let state = bench.state;
     let place = bench.place;
     let flags = state.flags;
-    let old = machine::slot_of(state, name);
+    let old = state::slot_of(state, name);
     let addr = old.addr;
     let new = Slot {
         mode,
@@ -158,7 +161,7 @@ pub(crate) fn force(bench: Bench, slot: u8, number: u8, ip: usize) -> Bench {
         data: old.data,
     };
     Bench {
-        state: machine::with_slot(state, name, new, flags),
+        state: state::with_slot(state, name, new, flags),
         place,
     }
 }
@@ -231,7 +234,7 @@ pub(crate) fn step<'a>(
     show::count(b" searched ", stepped.searched);
     show::count(b" row ", place.row as u64);
     show::count(b" used ", place.used);
-    show::slot(machine::slot_of(state, name));
+    show::slot(state::slot_of(state, name));
     let flags = state.flags;
     show::flags(state.family, flags);
     show::word(b"\n");

@@ -1,10 +1,10 @@
 // What the vector program prints, piece by piece, on standard output.
+use flags::Flags;
 use host::Outcome;
-use machine::Effect;
-use machine::Flags;
-use machine::Mode;
-use machine::Slot;
-use machine::SlotName;
+use state::Mode;
+use state::Slot;
+use state::SlotName;
+use turn::Effect;
 
 pub(crate) fn word(text: &[u8]) {
     io::write_all(1, text);
@@ -25,7 +25,7 @@ pub(crate) fn hex(text: &[u8], n: u32) {
 pub(crate) fn outcome(outcome: Outcome) {
     match outcome {
         Outcome::Done => word(b" done"),
-        Outcome::Refused(why) => count(b" refused ", host::inaccessible_number(why) as u64),
+        Outcome::Refused(why) => count(b" refused ", refusals::inaccessible_number(why) as u64),
     }
     word(b"\n");
 }
@@ -57,9 +57,9 @@ pub(crate) fn slot(slot: Slot) {
 }
 
 pub(crate) fn flags(family: u8, flags: Flags) {
-    hex(b" flags ", machine::flags_word_0(flags));
-    hex(b" ", machine::flags_word_1(flags));
-    if machine::memory_paused(family, flags) {
+    hex(b" flags ", flags::flags_word_0(flags));
+    hex(b" ", flags::flags_word_1(flags));
+    if flags::memory_paused(family, flags) {
         word(b" paused");
     } else {
         word(b" free");
@@ -68,9 +68,9 @@ pub(crate) fn flags(family: u8, flags: Flags) {
 
 pub(crate) fn effect(effect: Effect) {
     match effect {
-        Effect::Refused(why) => count(b" refused ", machine::unsteppable_number(why) as u64),
+        Effect::Refused(why) => count(b" refused ", refusals::unsteppable_number(why) as u64),
         Effect::Nothing => word(b" nothing"),
-        Effect::Stopped(why) => count(b" stopped ", isa::unreadable_number(why) as u64),
+        Effect::Stopped(why) => count(b" stopped ", refusals::unreadable_number(why) as u64),
         Effect::Unknown => word(b" unknown"),
         Effect::Done => word(b" done"),
         Effect::Wrote(address, data) => {

@@ -11,7 +11,7 @@ use Rattle.families.specs.Family.{codeSize}
 use Rattle.isa.specs.Reader.{decodeOf}
 use Rattle.isa.specs.Codec.{OneSpelling}
 use Rattle.isa.specs.declared.reader.Decoded.{Decoded}
-use Rattle.isa.specs.declared.reader.Unreadable.{Unreadable}
+use Rattle.refusals.specs.declared.refusals.Unreadable.{Unreadable}
 use Rattle.fetch.specs.Fetch.{codeRam, checkMarks, fetchOf, Inside, Fetches}
 use Rattle.fetch.proofs.Places.{part, inside-of}
 use Rattle.fetch.proofs.fetch.Statement.{statement}

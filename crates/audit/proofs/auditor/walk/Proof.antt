@@ -10,17 +10,17 @@ use borrow.Author.Needs.{needs}
 use Rattle.families.specs.Family.{codeSize, highestEntry}
 use Rattle.isa.specs.declared.instructions.Instruction.{Instruction}
 use Rattle.isa.specs.declared.reader.Decoded.{Decoded}
-use Rattle.isa.specs.declared.reader.Unreadable.{Unreadable}
+use Rattle.refusals.specs.declared.refusals.Unreadable.{Unreadable}
 use Rattle.isa.proofs.Tests.{both-left}
 use Rattle.fetch.specs.Fetch.{fetchOf, reasonOf}
 use Rattle.fetch.proofs.Places.{size-small}
-use Rattle.machine.specs.Action.{actionOf}
-use Rattle.machine.specs.declared.actions.Action.{Action}
+use Rattle.actions.specs.Action.{actionOf}
+use Rattle.actions.specs.declared.actions.Action.{Action}
 use Rattle.audit.specs.Auditor.{faultOf, faultAt, judgeOf, knowNext, waitLength}
-use Rattle.audit.specs.declared.auditor.Fault.{Fault}
+use Rattle.refusals.specs.declared.refusals.Fault.{Fault}
 use Rattle.audit.specs.declared.auditor.Judgement.{Judgement}
 use Rattle.audit.specs.declared.auditor.Knowledge.{Knowledge}
-use Rattle.audit.proofs.Scripts.{fits-script}
+use Rattle.script.proofs.Scripts.{fits-script}
 use Rattle.audit.proofs.Turns.{Going, going-first, going-none, going-exit, going-bad, going-on, going-fits}
 use Rattle.audit.proofs.auditor.walk.Statement.{statement}
 use Rattle.audit.proofs.auditor.walk.Tie as tie

@@ -16,7 +16,7 @@ use Rattle.isa.specs.Codec.{Writes}
 use Rattle.isa.specs.declared.instructions.Instruction.{Instruction}
 use Rattle.isa.specs.declared.reader.Decoded.{Decoded}
 use Rattle.isa.specs.declared.writer.Encoded.{Encoded}
-use Rattle.isa.specs.declared.writer.Unwritable.{Unwritable}
+use Rattle.refusals.specs.declared.refusals.Unwritable.{Unwritable}
 use Rattle.isa.proofs.Codec.{Writable, reads-back}
 use Rattle.isa.proofs.Writing.{no-family, not-on, bad-operand, no-room, written, write-numbered}
 use Rattle.isa.proofs.writer.encode.Statement.{statement}

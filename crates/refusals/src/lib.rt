@@ -1,0 +1,15 @@
+// Every refusal and fault with its number, in one place.
+mod refusals;
+
+pub use refusals::Fault;
+pub use refusals::Inaccessible;
+pub use refusals::Unreadable;
+pub use refusals::Unreplayable;
+pub use refusals::Unsteppable;
+pub use refusals::Unwritable;
+pub use refusals::fault_number;
+pub use refusals::inaccessible_number;
+pub use refusals::unreadable_number;
+pub use refusals::unreplayable_number;
+pub use refusals::unsteppable_number;
+pub use refusals::unwritable_number;

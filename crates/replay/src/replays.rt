@@ -1,0 +1,312 @@
+// Replay: the run of a script against a recorded log.
+ghost use mathlib.Core.Path.{_≡_};
+ghost use mathlib.Core.Bool.{true};
+ghost use Prim.Native.Nat.{_+_, _*_, _^_, _<_, _≤_};
+ghost use lib.ListN.{length};
+ghost use lib.Seq.{sets};
+ghost use Rattle.fetch.specs.Fetch.{fetchOf};
+ghost use Rattle.log.specs.Validity.{validLog};
+ghost use Rattle.flags.specs.Flags.{flagsFromWords};
+ghost use Rattle.turn.specs.Turn.{turnOf};
+ghost use Rattle.script.specs.Input.{scriptFits};
+ghost use Rattle.replay.specs.Run.{wroteBy, fetchedBy};
+ghost use Rattle.replay.specs.Replay.{endingOf, entriesOf, Replays};
+ghost use Rattle.replay.specs.Progress.{progressAfter, toldAt, RunsThrough};
+use flags::Flags;
+use isa::CodeAddress;
+use isa::Decoded;
+use isa::MmioAddress;
+use log::Place;
+use refusals::Unreplayable;
+use script::script_fits;
+use state::Mode;
+use state::Slot;
+use turn::Effect;
+use turn::Turn;
+
+// Two entries a write, and a script of 512 bytes makes at most 170 writes.
+const MAX_ENTRIES: usize = 340;
+
+// How a run ended.
+pub enum Ending {
+    Exit,
+    // in a wait, the log used up
+    Log,
+    // at a poke with HWSQ_ENABLE 0
+    Poke,
+    Hang,
+    // at a byte past the code RAM or never uploaded
+    Stop,
+}
+
+pub struct Replayed {
+    pub ending: Ending,
+    pub ip: CodeAddress,
+    pub addr: MmioAddress,
+    pub data: u32,
+    pub flags_0: u32,
+    pub flags_1: u32,
+    pub place: Place,
+    // instructions fetched
+    pub steps: usize,
+    pub writes: usize,
+    // clocks spent in waits, passed by in ewaits, and left
+    pub waited: u64,
+    pub searched: u64,
+    pub left: u64,
+}
+
+pub enum ReplayAnswer {
+    Ended(Replayed),
+    Refused(Unreplayable),
+}
+
+// Where a run stands.
+pub struct Progress {
+    pub slot: Slot,
+    pub flags: Flags,
+    pub place: Place,
+    pub steps: usize,
+    // lent entries used
+    pub used: usize,
+    pub waited: u64,
+    pub searched: u64,
+}
+
+// Runs the script in slot A from its entry, with these registers, under the log. The writes go into the lent entries,
+// address and data of each; the other entries stay as lent.
+pub fn replay<'a>(
+    family: u8,
+    code: &'a [u8],
+    marks: &'a [u8],
+    entry: usize,
+    addr: MmioAddress,
+    data: u32,
+    flags_0: u32,
+    flags_1: u32,
+    enable: bool,
+    clocks: &'a [u64],
+    known: &'a [u32],
+    values: &'a [u32],
+    writes: &mut [u32],
+) -> ReplayAnswer
+    ensures { λ r. ⌜ Replays family (now (code .entry)) (now (marks .entry)) entry (addr .0) «data» «flags_0» «flags_1» enable (now (clocks .entry)) (now (known .entry)) (now (values .entry)) (now (writes .entry)) (now (writes .exit)) r ⌝ }
+{
+    if !script_fits(family, code, marks, entry) {
+        return ReplayAnswer::Refused(Unreplayable::Input);
+    }
+    if writes.len() < MAX_ENTRIES {
+        return ReplayAnswer::Refused(Unreplayable::Room);
+    }
+    if !log::valid_log(clocks, known, values) {
+        return ReplayAnswer::Refused(Unreplayable::Log);
+    }
+    let last = run_turns(
+        family,
+        code,
+        marks,
+        entry,
+        addr,
+        data,
+        flags_0,
+        flags_1,
+        enable,
+        clocks,
+        known,
+        values,
+        writes,
+    );
+    ReplayAnswer::Ended(told(last, clocks))
+}
+
+fn begin(entry: usize, addr: MmioAddress, data: u32, flags_0: u32, flags_1: u32) -> Progress
+    ensures { λ r. ⌜ r ≡ record { slot = record { mode = Mode.Running; ip = record { 0 = entry }; addr = addr; «data» = «data» }; flags = flagsFromWords «flags_0» «flags_1»; place = record { row = 0; used = 0 }; steps = 0; used = 0; waited = 0; searched = 0 } ⌝ }
+{
+    let flags = flags::flags_from_words(flags_0, flags_1);
+    Progress {
+        slot: Slot {
+            mode: Mode::Running,
+            ip: CodeAddress(entry),
+            addr,
+            data,
+        },
+        flags,
+        place: Place { row: 0, used: 0 },
+        steps: 0,
+        used: 0,
+        waited: 0,
+        searched: 0,
+    }
+}
+
+// One instruction: fetched, taken apart, and done.
+fn take_turn<'a>(
+    family: u8,
+    code: &'a [u8],
+    marks: &'a [u8],
+    enable: bool,
+    clocks: &'a [u64],
+    known: &'a [u32],
+    values: &'a [u32],
+    progress: Progress,
+) -> Turn
+    ensures { λ r. ⌜ r ≡ turnOf family enable (progress .slot) (progress .flags) (now (clocks .entry)) (now (known .entry)) (now (values .entry)) (progress .place) (fetchOf family (now (code .entry)) (now (marks .entry)) (progress .slot .ip .0)) ⌝ }
+{
+    let slot = progress.slot;
+    let flags = progress.flags;
+    let place = progress.place;
+    let ip = slot.ip.0;
+    let found = fetch::fetch(family, code, marks, ip);
+    let Decoded::Instruction(instruction, length) = found else {
+        let why = fetch::reason_of(found);
+        let next = fetch::past_opcode(ip);
+        return turn::unfetched(family, slot, flags, place, next, why);
+    };
+    let action = actions::action_of(instruction);
+    let elapsed = turn::elapse(action, clocks, known, values, place);
+    turn::perform(enable, slot, flags, action, ip + length, elapsed)
+}
+
+// Whether an effect is a fetched instruction, as 0 or 1.
+fn fetched(effect: Effect) -> usize
+    ensures { λ r. ⌜ r ≡ fetchedBy effect ⌝ }
+{
+    match effect {
+        Effect::Refused(_) => 0,
+        Effect::Nothing => 0,
+        Effect::Stopped(_) => 0,
+        Effect::Unknown => 1,
+        Effect::Done => 1,
+        Effect::Wrote(_, _) => 1,
+    }
+}
+
+// Two entries for a write, none for any other effect.
+fn entries(effect: Effect) -> usize
+    ensures { λ r. ⌜ r ≡ 2 * length (wroteBy effect) ⌝ }
+{
+    match effect {
+        Effect::Refused(_) => 0,
+        Effect::Nothing => 0,
+        Effect::Stopped(_) => 0,
+        Effect::Unknown => 0,
+        Effect::Done => 0,
+        Effect::Wrote(_, _) => 2,
+    }
+}
+
+// Puts a write's address and data at a place of the lent entries.
+fn store(effect: Effect, writes: &mut [u32], at: usize)
+    requires { ⌜ at + 2 * length (wroteBy effect) ≤ length (now writes) ⌝ }
+    ensures { λ r. ⌜ now (writes .exit) ≡ sets (now (writes .entry)) at (entriesOf (wroteBy effect)) ⌝ }
+{
+    match effect {
+        Effect::Refused(_) => {}
+        Effect::Nothing => {}
+        Effect::Stopped(_) => {}
+        Effect::Unknown => {}
+        Effect::Done => {}
+        Effect::Wrote(address, word) => {
+            writes[at] = address.0;
+            writes[at + 1] = word;
+        }
+    }
+}
+
+fn after_turn(progress: Progress, turn: Turn) -> Progress
+    requires { ⌜ (progress .steps < 1024) × (progress .used < 1024) × (progress .waited + turn .waited < 2 ^ 64) × (progress .searched + turn .searched < 2 ^ 64) ⌝ }
+    ensures { λ r. ⌜ r ≡ progressAfter progress turn ⌝ }
+{
+    let slot = turn.slot;
+    let flags = turn.flags;
+    let place = turn.place;
+    let effect = turn.effect;
+    Progress {
+        slot,
+        flags,
+        place,
+        steps: progress.steps + fetched(effect),
+        used: progress.used + entries(effect),
+        waited: progress.waited + turn.waited,
+        searched: progress.searched + turn.searched,
+    }
+}
+
+// Turn after turn, until the slot does not run or there was one turn more than the code RAM has bytes.
+fn run_turns<'a>(
+    family: u8,
+    code: &'a [u8],
+    marks: &'a [u8],
+    entry: usize,
+    addr: MmioAddress,
+    data: u32,
+    flags_0: u32,
+    flags_1: u32,
+    enable: bool,
+    clocks: &'a [u64],
+    known: &'a [u32],
+    values: &'a [u32],
+    writes: &mut [u32],
+) -> Progress
+    requires { ⌜ (scriptFits family (now code) (now marks) entry ≡ true) × (validLog (now clocks) (now known) (now values) ≡ true) × (340 ≤ length (now writes)) ⌝ }
+    ensures { λ r. ⌜ RunsThrough family (now (code .entry)) (now (marks .entry)) entry (addr .0) «data» «flags_0» «flags_1» enable (now (clocks .entry)) (now (known .entry)) (now (values .entry)) (now (writes .entry)) (now (writes .exit)) r ⌝ }
+{
+    let limit = families::code_size(family) + 1;
+    let mut progress = begin(entry, addr, data, flags_0, flags_1);
+    let mut turns = 0;
+    let last = loop {
+        if limit <= turns {
+            break progress;
+        }
+        let slot = progress.slot;
+        let mode = slot.mode;
+        if !state::is_running(mode) {
+            break progress;
+        }
+        let turn = take_turn(family, code, marks, enable, clocks, known, values, progress);
+        let effect = turn.effect;
+        let used = progress.used;
+        store(effect, writes, used);
+        progress = after_turn(progress, turn);
+        turns += 1;
+    };
+    last
+}
+
+fn ending_of(mode: Mode) -> Ending
+    ensures { λ r. ⌜ r ≡ endingOf mode ⌝ }
+{
+    match mode {
+        Mode::Idle => Ending::Exit,
+        Mode::Running => Ending::Stop,
+        Mode::Waiting => Ending::Log,
+        Mode::Blocked => Ending::Poke,
+        Mode::Hung => Ending::Hang,
+    }
+}
+
+fn told(last: Progress, clocks: &[u64]) -> Replayed
+    ensures { λ r. ⌜ r ≡ toldAt (now (clocks .entry)) last ⌝ }
+{
+    let slot = last.slot;
+    let flags = last.flags;
+    let place = last.place;
+    let mode = slot.mode;
+    let ip = slot.ip;
+    let addr = slot.addr;
+    let ending = ending_of(mode);
+    Replayed {
+        ending,
+        ip,
+        addr,
+        data: slot.data,
+        flags_0: flags::flags_word_0(flags),
+        flags_1: flags::flags_word_1(flags),
+        place,
+        steps: last.steps,
+        writes: last.used / 2,
+        waited: last.waited,
+        searched: last.searched,
+        left: log::clocks_left(clocks, place),
+    }
+}

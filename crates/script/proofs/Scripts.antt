@@ -1,0 +1,106 @@
+-- A script that is audited: what row 9's tests say of it, and the action read at a place; and a log. Assumes nothing.
+use Prim.Native.Nat.{ℕ, _+_, _^_, _≤_, _<_}
+use mathlib.Core.Path.{_≡_, refl}
+use mathlib.Core.Bool.{true}
+use mathlib.Core.List.{List}
+use native.Mathlib.Omega.{arith}
+use lib.Dec.{leb, eqb}
+use lib.ListN.{length, getD}
+use borrow.Author.Tests.{leb-true, eqb-true}
+use Rattle.families.specs.Family.{knownFamily, codeSize, highestEntry}
+use Rattle.isa.specs.Writer.{operandsFit}
+use Rattle.isa.specs.declared.instructions.Instruction.{Instruction}
+use Rattle.isa.specs.declared.reader.Decoded.{Decoded}
+use Rattle.isa.proofs.Clocks.{wait-most}
+use Rattle.isa.proofs.Tests.{both-left, both-right, by-family-elim}
+use Rattle.fetch.specs.Fetch.{fetchOf}
+use Rattle.fetch.proofs.Places.{fetch-inside, fetch-lies}
+use Rattle.actions.specs.Action.{actionOf}
+use Rattle.actions.specs.declared.actions.Action.{Action}
+use Rattle.script.specs.Input.{marksPlain, scriptFits}
+
+-- what the auditor is given, but for the entry
+pub record Script : Type 0 where
+  pub family : ℕ
+  pub code : List ℕ
+  pub marks : List ℕ
+  pub ranges : List ℕ
+
+-- a log's columns
+pub record Log : Type 0 where
+  pub clocks : List ℕ
+  pub known : List ℕ
+  pub values : List ℕ
+
+-- ---- row 9's tests of a script, as facts
+
+pub record Fits (family : ℕ) (code marks : List ℕ) (entry : ℕ) : Type 0 where
+  pub known : knownFamily family ≡ true
+  pub code-size : length code ≡ codeSize family
+  pub marks-size : length marks ≡ codeSize family
+  pub plain : marksPlain marks ≡ true
+  pub entry-low : entry ≤ 511
+
+entry-most : (family : ℕ) → highestEntry family ≤ 511
+entry-most family = by-family-elim (λ (n : ℕ). n ≤ 511) family 255 255 255 511 (omega arith) (omega arith) (omega arith) (omega arith) (λ _. omega arith)
+
+pub fits-script : (family : ℕ) (code marks : List ℕ) (entry : ℕ) → scriptFits family code marks entry ≡ true → Fits family code marks entry
+unfolding scriptFits
+fits-script family code marks entry e =
+    let one = both-right (knownFamily family) _ e in
+    let two = both-right (eqb (length code) (codeSize family)) _ one in
+    let three = both-right (eqb (length marks) (codeSize family)) _ two in
+    let four = both-right (marksPlain marks) (leb entry (highestEntry family)) three in
+    record {
+      known = both-left (knownFamily family) _ e;
+      code-size = eqb-true (length code) (codeSize family) (both-left (eqb (length code) (codeSize family)) _ one);
+      marks-size = eqb-true (length marks) (codeSize family) (both-left (eqb (length marks) (codeSize family)) _ two);
+      plain = both-left (marksPlain marks) (leb entry (highestEntry family)) three;
+      entry-low = omega (arith, leb-true entry (highestEntry family) four, entry-most family);
+    }
+
+-- a script that fits, of bytes
+pub record Auditable (x : Script) (entry : ℕ) : Type 0 where
+  pub fits : Fits (x .family) (x .code) (x .marks) entry
+  pub bytes : (i : ℕ) → getD (x .code) i 0 < 2 ^ 8
+
+-- ---- the action at a place
+
+abbrev pub fetchAt : Script → ℕ → Decoded
+fetchAt x p = fetchOf (x .family) (x .code) (x .marks) p
+
+-- the operands that an instruction of a few bytes can have
+abbrev pub Formed : Action → Type 0
+Formed (Action.Wait n) = n ≤ 103079215104
+Formed (Action.Ewait event value) = Unit {0}
+Formed (Action.Flag change flag) = flag < 32
+Formed (Action.Load part word) = Unit {0}
+Formed (Action.Poke part word) = Unit {0}
+Formed Action.Exit = Unit {0}
+
+formed : (i : Instruction) → operandsFit i ≡ true → Formed (actionOf i)
+formed (Instruction.Wait l s) w = wait-most l s
+formed (Instruction.AddrLo a) w = tt
+formed (Instruction.DataLo d) w = tt
+formed (Instruction.Ewait e v) w = tt
+formed Instruction.Exit w = tt
+formed (Instruction.Unset f) w = omega (arith, leb-true f 31 w)
+formed (Instruction.Set1 f) w = omega (arith, leb-true f 31 w)
+formed (Instruction.Set0 f) w = omega (arith, leb-true f 31 w)
+formed (Instruction.Addr a) w = tt
+formed (Instruction.Data d) w = tt
+
+-- the action at a place, n bytes long
+pub record Reads (x : Script) (p : ℕ) (action : Action) (n : ℕ) : Type 0 where
+  pub instruction : Instruction
+  pub found : fetchAt x p ≡ Decoded.Instruction instruction n
+  pub acts : actionOf instruction ≡ action
+  pub some : 0 < n
+  pub inside : p + n ≤ codeSize (x .family)
+  pub formed : Formed action
+
+pub fetch-reads : (x : Script) → ((i : ℕ) → getD (x .code) i 0 < 2 ^ 8) → (p : ℕ) (i : Instruction) (n : ℕ) → fetchAt x p ≡ Decoded.Instruction i n → Reads x p (actionOf i) n
+fetch-reads x bytes p i n e =
+    let inside = rw e at (fetch-inside (x .family) (x .code) (x .marks) p bytes) in
+    let lies = rw e at (fetch-lies (x .family) (x .code) (x .marks) p) in
+    record { instruction = i; found = e; acts = refl; some = lies .1; inside = lies .2; formed = formed i (inside .3) }

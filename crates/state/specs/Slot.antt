@@ -1,0 +1,38 @@
+-- Slots and their modes (01, "Four card families" and "Steps and time").
+use Prim.Native.Nat.{ℕ}
+use mathlib.Core.Bool.{Bool, true, false, _&&_}
+use lib.Dec.{leb}
+use Rattle.families.specs.Family.{slotCount}
+use Rattle.state.specs.declared.slots.Mode.{Mode}
+use Rattle.state.specs.declared.slots.Slot.{Slot}
+use Rattle.state.specs.declared.slots.SlotName.{SlotName}
+use Rattle.state.specs.declared.state.State.{State}
+use Rattle.flags.specs.declared.flags.Flags.{Flags}
+
+-- families 1 to 3 have slots A and B, family 4 slot A alone
+abbrev pub hasSlot : ℕ → SlotName → Bool
+hasSlot family SlotName.A = leb 1 (slotCount family)
+hasSlot family SlotName.B = leb 2 (slotCount family)
+
+abbrev pub isRunning : Mode → Bool
+isRunning Mode.Idle = false
+isRunning Mode.Running = true
+isRunning Mode.Waiting = false
+isRunning Mode.Blocked = false
+isRunning Mode.Hung = false
+
+abbrev pub isIdle : Mode → Bool
+isIdle Mode.Idle = true
+isIdle Mode.Running = false
+isIdle Mode.Waiting = false
+isIdle Mode.Blocked = false
+isIdle Mode.Hung = false
+
+abbrev pub slotOf : State → SlotName → Slot
+slotOf s SlotName.A = s .a
+slotOf s SlotName.B = s .b
+
+-- the state with another slot and other flags
+abbrev pub withSlot : State → SlotName → Slot → Flags → State
+withSlot s SlotName.A slot flags = record { family = s .family; code = s .code; marks = s .marks; flags = flags; enable = s .enable; «override_mode» = s .«override_mode»; entries = s .entries; «entries_high» = s .«entries_high»; a = slot; b = s .b }
+withSlot s SlotName.B slot flags = record { family = s .family; code = s .code; marks = s .marks; flags = flags; enable = s .enable; «override_mode» = s .«override_mode»; entries = s .entries; «entries_high» = s .«entries_high»; a = s .a; b = slot }

@@ -1,0 +1,10 @@
+// What one fetched instruction does to its slot, the flags and the place in the log.
+mod time;
+mod turn;
+
+pub use time::Elapsed;
+pub use time::elapse;
+pub use turn::Effect;
+pub use turn::Turn;
+pub use turn::perform;
+pub use turn::unfetched;
