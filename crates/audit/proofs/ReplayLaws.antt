@@ -5,7 +5,6 @@ use mathlib.Core.Bool.{Bool, true}
 use mathlib.Core.List.{List}
 use native.Mathlib.Omega.{arith}
 use lib.Dec.{leb}
-use Rattle.families.specs.Family.{codeSize}
 use Rattle.isa.proofs.Tests.{cond-elim}
 use Rattle.log.specs.Validity.{validLog}
 use Rattle.flags.specs.Flags.{flagsWord0, flagsWord1, flagsFromWords}
@@ -16,7 +15,7 @@ use Rattle.state.specs.declared.slots.SlotName.{SlotName}
 use Rattle.state.specs.declared.state.State.{State}
 use Rattle.state.proofs.SlotLaws.{has-a}
 use Rattle.script.specs.Input.{scriptFits}
-use Rattle.replay.specs.Replay.{replayState, endingOf, toldOf, fullRun, replayedRun, replayOf, EndsRight}
+use Rattle.replay.specs.Replay.{replayState, endingOf, toldOf, fullSteps, fullRun, replayedRun, replayOf}
 use Rattle.replay.specs.Run.{Run, begun, runFor}
 use Rattle.audit.specs.Start.{Start}
 use Rattle.replay.specs.declared.replays.Ending.{Ending}
@@ -70,9 +69,9 @@ module _ (family : ℕ) (code marks : List ℕ) (entry : ℕ) (fits : scriptFits
   full-alike : (name : SlotName) (s : State) → Start family code marks entry name s → (clocks known values : List ℕ)
       → Alike SlotName.A name (fullRun SlotName.A clocks known values (replayed name s)) (fullRun name clocks known values s)
   full-alike name s start clocks known values =
-      subst (λ (f : ℕ). Alike SlotName.A name (fullRun SlotName.A clocks known values (replayed name s)) (runFor name clocks known values (suc (codeSize f)) (begun s)))
+      subst (λ (f : ℕ). Alike SlotName.A name (fullRun SlotName.A clocks known values (replayed name s)) (runFor name clocks known values (fullSteps f) (begun s)))
       (sym (start .same-family))
-      (alike-run SlotName.A name clocks known values (suc (codeSize family)) (begun (replayed name s)) (begun s) (start-alike name s start))
+      (alike-run SlotName.A name clocks known values (fullSteps family) (begun (replayed name s)) (begun s) (start-alike name s start))
 
 -- runs that are alike are told alike
 told-alike : (name name′ : SlotName) (clocks : List ℕ) (r r′ : Run) → Alike name name′ r r′ → toldOf name clocks r ≡ toldOf name′ clocks r′

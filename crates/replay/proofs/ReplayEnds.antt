@@ -5,7 +5,6 @@ use mathlib.Core.Bool.{Bool, true}
 use mathlib.Core.List.{List}
 use native.Mathlib.Omega.{arith}
 use lib.Dec.{leb}
-use Rattle.families.specs.Family.{codeSize}
 use Rattle.isa.proofs.Tests.{cond-elim}
 use Rattle.log.specs.Validity.{validLog}
 use Rattle.flags.specs.Flags.{flagsWord0, flagsWord1, flagsFromWords}
@@ -16,7 +15,7 @@ use Rattle.state.specs.declared.slots.SlotName.{SlotName}
 use Rattle.state.specs.declared.state.State.{State}
 use Rattle.state.proofs.SlotLaws.{has-a}
 use Rattle.script.specs.Input.{scriptFits}
-use Rattle.replay.specs.Replay.{replayState, endingOf, toldOf, fullRun, replayedRun, replayOf, EndsRight}
+use Rattle.replay.specs.Replay.{replayState, endingOf, toldOf, fullSteps, replayedRun, replayOf, EndsRight}
 use Rattle.replay.specs.Run.{Run, begun, runFor}
 use Rattle.replay.specs.declared.replays.Ending.{Ending}
 use Rattle.replay.specs.declared.replays.ReplayAnswer.{ReplayAnswer}
@@ -41,7 +40,7 @@ module _ (family : ℕ) (code marks : List ℕ) (entry addr word flags0 flags1 :
       let r = replayedRun family code marks entry addr word flags0 flags1 enable clocks known values in
       let known-family = fits-script family code marks entry fits .known in (
         (λ e. stops SlotName.A clocks known values s known-family (has-a family known-family) log (stop-runs (slotOf (r .state) SlotName.A .mode) e)),
-        run-clocks clocks known values log SlotName.A s (suc (codeSize family)),
+        run-clocks clocks known values log SlotName.A s (fullSteps family),
       )
 
   -- so does every answer of replay

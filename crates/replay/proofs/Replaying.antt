@@ -9,7 +9,7 @@ use lib.ListN.{length, take, drop, getD, replicate, length-append, length-drop, 
 use lib.Seq.{sets, sets-eq, take-at, drop-append-add, drop-drop, getD-take}
 use lib.Dec.{eqb, leb}
 use borrow.Author.Tests.{le-leb}
-use Rattle.families.specs.Family.{knownFamily, codeSize}
+use Rattle.families.specs.Family.{knownFamily}
 use Rattle.isa.specs.declared.addresses.CodeAddress.{CodeAddress}
 use Rattle.isa.specs.declared.addresses.MmioAddress.{MmioAddress}
 use Rattle.refusals.specs.declared.refusals.Unreadable.{Unreadable}
@@ -32,7 +32,7 @@ use Rattle.turn.specs.declared.turn.Effect.{Effect}
 use Rattle.turn.specs.declared.turn.Turn.{Turn}
 use Rattle.script.specs.Input.{scriptFits}
 use Rattle.replay.specs.Run.{Run, Write, begun, wroteBy, fetchedBy, noted, nextStep, runFor}
-use Rattle.replay.specs.Replay.{replayState, entriesOf, writtenInto, replayedRun}
+use Rattle.replay.specs.Replay.{replayState, entriesOf, writtenInto, fullSteps, replayedRun}
 use Rattle.replay.specs.Progress.{progressOf, progressAfter}
 use Rattle.replay.specs.declared.replays.Progress.{Progress}
 use Rattle.state.proofs.SlotLaws.{has-a}
@@ -179,13 +179,13 @@ module _ (family : ℕ) (code marks : List ℕ) (entry addr word flags0 flags1 :
     writes-next n m = ap (λ (r : Run). r .writes) (run-next n m)
 
     -- a slot that does not run has come to its end
-    pub run-rests : (n : ℕ) → isRunning (slotOf (run n .state) SlotName.A .mode) ≡ false → n ≤ suc (codeSize family)
+    pub run-rests : (n : ℕ) → isRunning (slotOf (run n .state) SlotName.A .mode) ≡ false → n ≤ fullSteps family
         → run n ≡ replayedRun family code marks entry addr word flags0 flags1 enable clocks known values
     run-rests n m h =
         let still : fetchedBy (nextStep SlotName.A clocks known values (run n) .effect) ≡ 0 =
         ap (λ (t : Stepped). fetchedBy (t .effect)) (step-rests (run n .state) SlotName.A clocks known values (run n .place) (known-here n) log (place-here n) m) in
-        let left = suc (codeSize family) - n in
-        let all : n + left ≡ suc (codeSize family) = omega arith in
+        let left = fullSteps family - n in
+        let all : n + left ≡ fullSteps family = omega arith in
         sym (settled-more SlotName.A clocks known values n left (begun start) still) ∙ ap run all
 
     count-small : (n : ℕ) → run n .count ≤ n

@@ -28,6 +28,7 @@ use Rattle.turn.specs.declared.turn.Effect.{Effect}
 use Rattle.turn.specs.declared.turn.Turn.{Turn}
 use Rattle.state.proofs.SlotLaws.{slot-back}
 use Rattle.machine.proofs.StepLaws.{fetchedAt, turnAt, step-elim, step-turns}
+use Rattle.replay.specs.Replay.{fullSteps}
 use Rattle.replay.specs.Run.{Run, begun, fetchedBy, noted, nextStep, runFor}
 use Rattle.replay.proofs.Runs.{run-add, run-family, run-place}
 
@@ -186,22 +187,22 @@ module _ (name : SlotName) (clocks known values : List ℕ) where
       by (StepMoves.exits c m) later = inr (stays (idle-rests (next .state) name clocks known values (next .place) m))
 
   -- one step more than the code RAM has bytes settles every run
-  pub settled : (s : State) → Settled (runFor name clocks known values (suc (codeSize (s .family))) (begun s))
-  settled s = by (progress (suc (codeSize (s .family))) (begun s))
+  pub settled : (s : State) → Settled (runFor name clocks known values (fullSteps (s .family)) (begun s))
+  settled s = by (progress (fullSteps (s .family)) (begun s))
     where
       end : Run
-      end = runFor name clocks known values (suc (codeSize (s .family))) (begun s)
+      end = runFor name clocks known values (fullSteps (s .family)) (begun s)
 
-      by : (ipOf (begun s) + suc (codeSize (s .family)) ≤ ipOf end) ⊎ (Settled end) → Settled end
-      by (inl h) = past-rests (end .state) name clocks known values (end .place) (rw (run-family name clocks known values s (suc (codeSize (s .family)))) (omega arith))
+      by : (ipOf (begun s) + fullSteps (s .family) ≤ ipOf end) ⊎ (Settled end) → Settled end
+      by (inl h) = past-rests (end .state) name clocks known values (end .place) (rw (run-family name clocks known values s (fullSteps (s .family))) (omega arith))
       by (inr z) = z
 
   -- a slot of the family that still runs then is stopped by the next step
   pub stops : (s : State) → knownFamily (s .family) ≡ true → hasSlot (s .family) name ≡ true → validLog clocks known values ≡ true
-      → (let r = runFor name clocks known values (suc (codeSize (s .family))) (begun s) in
+      → (let r = runFor name clocks known values (fullSteps (s .family)) (begun s) in
       slotOf (r .state) name .mode ≡ Mode.Running → (why : Unreadable) × (nextStep name clocks known values r .effect ≡ Effect.Stopped why))
   stops s family has log m =
-      let n = suc (codeSize (s .family)) in
+      let n = fullSteps (s .family) in
       let r = runFor name clocks known values n (begun s) in
       let same = run-family name clocks known values s n in
       let e = step-turns (r .state) name clocks known values (r .place) (ap knownFamily same ∙ family) log (run-place name clocks known values log s n) (ap (λ (f : ℕ). hasSlot f name) same ∙ has) m in

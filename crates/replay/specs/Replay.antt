@@ -76,9 +76,13 @@ entriesOf (w ∷ writes) = w .address ∷ w .word ∷ entriesOf writes
 abbrev pub writtenInto : List ℕ → List Write → List ℕ
 writtenInto lent writes = entriesOf writes ++ drop (2 * length writes) lent
 
--- the run of the named slot from a state, of one step more than the family's code RAM has bytes
+-- one step more than the family's code RAM has bytes
+abbrev pub fullSteps : ℕ → ℕ
+fullSteps family = suc (codeSize family)
+
+-- the run of the named slot from a state, of so many steps
 abbrev pub fullRun : SlotName → List ℕ → List ℕ → List ℕ → State → Run
-fullRun name clocks known values s = runFor name clocks known values (suc (codeSize (s .family))) (begun s)
+fullRun name clocks known values s = runFor name clocks known values (fullSteps (s .family)) (begun s)
 
 -- what replay is asked
 module _ (family : ℕ) (code marks : List ℕ) (entry addr word flags0 flags1 : ℕ) (enable : Bool) (clocks known values : List ℕ) where

@@ -174,7 +174,7 @@ fn fetched(effect: Effect) -> usize
     match effect {
         Effect::Refused(_) => 0,
         Effect::Nothing => 0,
-        Effect::Stopped(_) => 0,
+        Effect::Stopped(_) => 0, // a stop is none
         Effect::Unknown => 1,
         Effect::Done => 1,
         Effect::Wrote(_, _) => 1,
