@@ -1,6 +1,6 @@
 -- Upload marks, one byte at a time. Assumes nothing.
 use Prim.Native.Nat.{ℕ, zero, suc, _+_, _-_, _≤_, _<_}
-use mathlib.Core.Path.{_≡_, sym, _∙_}
+use mathlib.Core.Path.{_≡_, refl, sym, _∙_}
 use mathlib.Core.Bool.{true, false, _&&_}
 use mathlib.Core.List.{List}
 use native.Mathlib.Omega.{arith}
@@ -33,6 +33,16 @@ module _ (marks : List ℕ) (i left : ℕ) where
 
   pub marked-not : 0 < left → (getD marks i 0 ≡ 1 → ⊥) → false ≡ allMarked left marks i
   marked-not h e = sym (step (left - 1) (omega arith) ∙ rw (ne-eqb (getD marks i 0) 1 e))
+
+  -- one byte at most, the first of which has its mark
+  pub marked-first : left < 2 → getD marks i 0 ≡ 1 → allMarked left marks i ≡ true
+  unfolding allMarked
+  marked-first h e = one left h
+    where
+      one : (n : ℕ) → n < 2 → allMarked n marks i ≡ true
+      one zero l = refl
+      one (suc zero) l = rw (eq-eqb (getD marks i 0) 1 e)
+      one (suc (suc n)) l = absurd (omega arith)
 
 -- each of the bytes has its mark
 pub marked-at : (n : ℕ) (marks : List ℕ) (i : ℕ) → allMarked n marks i ≡ true → (j : ℕ) → j < n → getD marks (i + j) 0 ≡ 1

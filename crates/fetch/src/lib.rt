@@ -31,13 +31,16 @@ fn all_marked(marks: &[u8], at: usize, n: usize) -> bool
     true
 }
 
-// The answer, unless a byte of its instruction was never uploaded.
+// The answer, unless a byte of its instruction was never uploaded. The first byte was, so most instructions are done with.
 fn check_marks(found: Decoded, marks: &[u8], at: usize) -> Decoded
+    requires { ⌜ getD (now marks) at 0 ≡ 1 ⌝ }
     ensures { λ r. ⌜ r ≡ checkMarks (now (marks .entry)) at found ⌝ }
 {
     match found {
         Decoded::Instruction(_, length) => {
-            if all_marked(marks, at, length) {
+            if length < 2 {
+                found
+            } else if all_marked(marks, at, length) {
                 found
             } else {
                 Decoded::Refused(Unreadable::NotUploaded)
