@@ -1,0 +1,4 @@
+pub mod PutLaws
+pub mod Backwards
+pub mod DecimalLaws
+pub mod HexLaws
