@@ -1,0 +1,44 @@
+-- The report on a job, whole (01, "A job, and one report whole").
+use Prim.Native.Nat.{ℕ, _≤_}
+use mathlib.Core.Path.{_≡_}
+use mathlib.Core.Bool.{cond}
+use mathlib.Core.List.{List, _++_}
+use lib.Dec.{eqb}
+use lib.ListN.{length, take, drop}
+use Rattle.refusals.specs.Number.{faultNumber}
+use Rattle.refusals.specs.declared.refusals.Fault.{Fault}
+use Rattle.audit.specs.declared.auditor.Verdict.{Verdict}
+use Rattle.replay.specs.declared.replays.Replayed.{Replayed}
+use Rattle.state.specs.declared.state.State.{State}
+use Rattle.records.specs.Job.{knownOf}
+use Rattle.records.specs.Reader.{readOf}
+use Rattle.records.specs.declared.contents.Job.{Job}
+use Rattle.job.specs.Lines.{refusedLine, familyLine, faultLine, passLine, writeLines, rowLines, endLine, statusLine}
+use Rattle.job.specs.Script.{verdictOf, jobRun, toldRun, stateAfter, statusOf}
+
+-- how a run ended, and the status then
+abbrev pub lastLines : State → Replayed → List ℕ
+lastLines s told = endLine (told .ending) (told .place) ++ statusLine (statusOf (stateAfter s told))
+
+-- of a run: its writes, a line for each row, the end, the status
+unfoldable pub runLines : Job → List ℕ
+runLines j = writeLines (jobRun j .writes) ++ rowLines 0 (knownOf j) ++ lastLines (j .state) (toldRun j)
+
+-- a refused script has the verdict alone; a passed one is then run
+abbrev pub verdictLines : Job → Verdict → List ℕ
+verdictLines j (Verdict.Pass place count writes clocks) = passLine (place .0) count writes clocks ++ runLines j
+verdictLines j (Verdict.Fault fault place) = faultLine (faultNumber fault) (place .0)
+
+unfoldable pub jobLines : Job → List ℕ
+jobLines j = familyLine (j .state .family) ++ verdictLines j (verdictOf j)
+
+-- a refused job prints only that
+unfoldable pub reportOf : List ℕ → List ℕ
+reportOf bytes = let read = readOf bytes in cond (eqb (read .number) 0) (jobLines (read .job)) (refusedLine (read .number) (read .at))
+
+-- what is promised of the answer, and of the lent bytes, old and new: the report and then as lent
+pub record Reports (bytes old new : List ℕ) (answer : ℕ) : Type 0 where
+  pub answered : answer ≡ length (reportOf bytes)
+  pub contents : new ≡ reportOf bytes ++ drop (length (reportOf bytes)) old
+  -- so many of the lent bytes can be handed on as a part
+  pub counted : (answer ≤ length new) × (answer ≡ length (take answer new))

@@ -1,0 +1,6 @@
+// The report on a job.
+mod lines;
+mod reports;
+mod runs;
+
+pub use reports::report;

@@ -1,0 +1,105 @@
+// The report on a job, whole.
+ghost use mathlib.Core.Path.{_≡_};
+ghost use mathlib.Core.Bool.{true};
+ghost use Prim.Native.Nat.{_≤_};
+ghost use lib.ListN.{length, take};
+ghost use Rattle.text.specs.Put.{Stored};
+ghost use Rattle.log.specs.Validity.{validLog};
+ghost use Rattle.records.specs.Records.{maxRows};
+ghost use Rattle.records.specs.Job.{CountsFit, clocksOf, knownOf, valuesOf};
+ghost use Rattle.job.specs.Lines.{rowLines};
+ghost use Rattle.job.specs.Report.{lastLines, runLines, jobLines, Reports};
+ghost use Rattle.job.specs.Inside.{ReadyToRun};
+use crate::lines::put_end;
+use crate::lines::put_family;
+use crate::lines::put_fault;
+use crate::lines::put_pass;
+use crate::lines::put_refused;
+use crate::lines::put_rows;
+use crate::lines::put_status;
+use crate::lines::put_writes;
+use crate::runs::replay_job;
+use crate::runs::state_after;
+use crate::runs::status_of;
+use crate::runs::verdict_of;
+use audit::Verdict;
+use records::Job;
+use replay::ReplayAnswer;
+use replay::Replayed;
+use state::State;
+
+// Puts the report on a job at the start of out, whose other bytes stay as lent, and answers how long it is.
+pub fn report(job: &[u8], out: &mut [u8; 65536]) -> usize
+    ensures { λ r. ⌜ Reports (now (job .entry)) (now (out .entry)) (now (out .exit)) r ⌝ }
+{
+    let read = records::read_job(job);
+    let number = read.number;
+    if number != 0 {
+        return put_refused(out, 0, number, read.at);
+    }
+    let whole = read.job;
+    put_job(out, 0, whole)
+}
+
+// The lines on a job that was read without fault.
+fn put_job(out: &mut [u8; 65536], at: usize, job: Job) -> usize
+    requires { ⌜ CountsFit (job .counts) × (validLog (clocksOf job) (knownOf job) (valuesOf job) ≡ true) ⌝ }
+    ensures { λ r. ⌜ Stored (now (out .entry)) at (jobLines job) r (now (out .exit)) ⌝ }
+    ensures { λ _. ⌜ length (now (out .entry)) ≡ 65536 ⌝ }
+{
+    let family = job.state.family;
+    let a = put_family(out, at, family);
+    let verdict = verdict_of(job);
+    match verdict {
+        Verdict::Pass {
+            place,
+            count,
+            writes,
+            clocks,
+        } => {
+            let b = put_pass(out, a, place.0, count, writes, clocks);
+            put_run(out, b, job)
+        }
+        Verdict::Fault(fault, place) => put_fault(out, a, refusals::fault_number(fault), place.0),
+    }
+}
+
+// The lines on the run of a passed script.
+fn put_run(out: &mut [u8; 65536], at: usize, job: Job) -> usize
+    requires { ⌜ ReadyToRun job ⌝ }
+    ensures { λ r. ⌜ Stored (now (out .entry)) at (runLines job) r (now (out .exit)) ⌝ }
+{
+    // two entries a write, and a script makes at most 170
+    let mut entries = [0u32; 340];
+    let answer = replay_job(job, &mut entries);
+    match answer {
+        ReplayAnswer::Ended(told) => {
+            let used = 2 * told.writes;
+            let a = put_writes(out, at, &entries[..used]);
+            let known = job.known;
+            let b = put_known(out, a, known, job.counts.rows);
+            put_last(out, b, job.state, told)
+        }
+        // never: the rows are a log, and a script that passed fits its family
+        ReplayAnswer::Refused(_) => at,
+    }
+}
+
+// A line for each of the first rows of a column.
+fn put_known(out: &mut [u8; 65536], at: usize, known: [u32; 1024], rows: usize) -> usize
+    requires { ⌜ rows ≤ maxRows ⌝ }
+    ensures { λ r. ⌜ Stored (now (out .entry)) at (rowLines 0 (take rows known)) r (now (out .exit)) ⌝ }
+{
+    put_rows(out, at, &known[..rows])
+}
+
+// How the run ended, and what STATUS shows then.
+fn put_last(out: &mut [u8; 65536], at: usize, state: State, told: Replayed) -> usize
+    ensures { λ r. ⌜ Stored (now (out .entry)) at (lastLines state told) r (now (out .exit)) ⌝ }
+{
+    let ending = told.ending;
+    let place = told.place;
+    let a = put_end(out, at, ending, place);
+    let last = state_after(state, told);
+    put_status(out, a, status_of(last))
+}

@@ -1,0 +1,14 @@
+-- Assumes nothing.
+use mathlib.Core.Path.{ap}
+use Rattle.host.specs.declared.access.Access.{Access}
+use Rattle.records.specs.Job.{emptyJob}
+use borrow.Author.Needs.{needs}
+use Rattle.records.proofs.contents.empty_job.Statement.{statement}
+use Rattle.records.proofs.contents.empty_job.Tie as tie
+
+returns : tie.Need-returns
+unfolding emptyJob
+returns c = simp (ap (λ (a : Access). a .state) (c .before .fresh-state .ensures .answered))
+
+pub empty-job-spec : {M : Type 1} → statement M
+empty-job-spec = tie.close (tie.spec (λ c κs. search needs) returns)

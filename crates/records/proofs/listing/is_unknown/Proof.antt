@@ -1,0 +1,17 @@
+-- Assumes nothing.
+use borrow.Author.Tests.{eq-eqb, ne-eqb}
+use Rattle.records.specs.Refusals.{isUnknown}
+use borrow.Author.Needs.{needs}
+use Rattle.records.proofs.listing.is_unknown.Statement.{statement}
+use Rattle.records.proofs.listing.is_unknown.Tie as tie
+
+returns : tie.Need-returns
+unfolding isUnknown
+returns c = simp (eq-eqb _ _ (c .if1 .taken))
+
+returns-2 : tie.Need-returns-2
+unfolding isUnknown
+returns-2 c = simp (ne-eqb _ _ (c .before .before .before .if1 .left), c .before .kind-of .ensures .0, c .before .before .byte-at .ensures)
+
+pub is-unknown-spec : {M : Type 1} → statement M
+is-unknown-spec = tie.close (tie.spec (λ c κs. search needs) (λ c κs. search needs) returns returns-2)

@@ -1,0 +1,6 @@
+pub mod Words
+pub mod Records
+pub mod Job
+pub mod Refusals
+pub mod Reader
+pub mod Inside

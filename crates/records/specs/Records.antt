@@ -1,0 +1,62 @@
+-- The kinds of record and their order (01, "A job, and one report whole").
+use Prim.Native.Nat.{ℕ}
+use mathlib.Core.Bool.{Bool, cond, not}
+use mathlib.Core.List.{List, [], _∷_}
+use lib.Dec.{ltb, eqb}
+use Rattle.records.specs.declared.kinds.Kind.{Kind}
+
+abbrev pub family : ℕ
+family = 0x04
+
+abbrev pub range : ℕ
+range = 0x03
+
+abbrev pub hostWrite : ℕ
+hostWrite = 0x02
+
+abbrev pub row : ℕ
+row = 0x01
+
+abbrev pub end : ℕ
+end = 0x00
+
+-- how many a job may have
+abbrev pub maxRanges : ℕ
+maxRanges = 64
+
+abbrev pub maxWrites : ℕ
+maxWrites = 512
+
+abbrev pub maxRows : ℕ
+maxRows = 1024
+
+-- a row of the table of kinds
+pub record TableRow : Type 0 where
+  pub byte : ℕ
+  pub kind : Kind
+
+abbrev pub is : ℕ → ℕ → ℕ → ℕ → TableRow
+is byte rank body most = record { byte = byte; kind = record { rank = rank; body = body; most = most } }
+
+-- each kind: its byte, its place in the order, the length of its body, and how many of it a job may have
+abbrev pub kinds : List TableRow
+kinds =
+    is family 1 1 1
+    ∷ is range 2 8 maxRanges
+    ∷ is hostWrite 3 8 maxWrites
+    ∷ is row 4 16 maxRows
+    ∷ is end 5 0 1
+    ∷ []
+
+-- a byte that is not in the table has no place in the order
+abbrev pub lookUp : ℕ → List TableRow → Kind
+lookUp byte [] = record { rank = 0; body = 0; most = 0 }
+lookUp byte (entry ∷ table) = cond (eqb byte (entry .byte)) (entry .kind) (lookUp byte table)
+
+unfoldable pub kindOf : ℕ → Kind
+kindOf byte = lookUp byte kinds
+
+-- kinds come in just that order: the first record is of the first rank, and no record's rank is below the last one's; before the
+-- first record the last rank is 0
+unfoldable pub isOutOfOrder : ℕ → ℕ → Bool
+isOutOfOrder last rank = cond (eqb last 0) (not (eqb rank 1)) (ltb rank last)

@@ -1,0 +1,58 @@
+// The kinds of record.
+ghost use mathlib.Core.Path.{_≡_};
+ghost use Prim.Native.Nat.{_≤_};
+ghost use Rattle.records.specs.Records.{kindOf, isOutOfOrder};
+
+pub(crate) const FAMILY: u8 = 4;
+
+pub(crate) const RANGE: u8 = 3;
+
+pub(crate) const HOST_WRITE: u8 = 2;
+
+pub(crate) const ROW: u8 = 1;
+
+pub(crate) const END: u8 = 0;
+
+const MAX_RANGES: usize = 64;
+
+const MAX_WRITES: usize = 512;
+
+const MAX_ROWS: usize = 1024;
+
+// What is fixed for a kind.
+pub struct Kind {
+    // its place in the order, from 1; 0 for a kind that there is not
+    pub rank: u8,
+    // how many bytes follow the byte of kind
+    pub body: usize,
+    // how many of them a job may have
+    pub most: usize,
+}
+
+fn entry(rank: u8, body: usize, most: usize) -> Kind
+    ensures { λ r. ⌜ r ≡ record { rank = rank; body = body; most = most } ⌝ }
+{
+    Kind { rank, body, most }
+}
+
+// The table of kinds.
+pub(crate) fn kind_of(byte: u8) -> Kind
+    ensures { λ r. ⌜ r ≡ kindOf byte ⌝ }
+    ensures { λ r. ⌜ r .body ≤ 16 ⌝ }
+{
+    match byte {
+        FAMILY => entry(1, 1, 1),
+        RANGE => entry(2, 8, MAX_RANGES),
+        HOST_WRITE => entry(3, 8, MAX_WRITES),
+        ROW => entry(4, 16, MAX_ROWS),
+        END => entry(5, 0, 1),
+        _ => entry(0, 0, 0),
+    }
+}
+
+// Ranks never fall from one record to the next, and the first record is of the first rank.
+pub(crate) fn is_out_of_order(last: u8, rank: u8) -> bool
+    ensures { λ r. ⌜ r ≡ isOutOfOrder last rank ⌝ }
+{
+    if last == 0 { rank != 1 } else { rank < last }
+}
