@@ -1,4 +1,4 @@
-//! How the vector programs print values; the formats are those of docs/VECTORS.md.
+//! How the program `vectors` prints values; the formats are those of docs/VECTORS.md.
 
 use crate::isa::Instruction;
 use crate::Refusal;
@@ -9,23 +9,6 @@ pub fn bytes(bytes: &[u8]) -> String {
         return "-".to_string();
     }
     bytes.iter().map(|byte| format!("{byte:02x}")).collect()
-}
-
-/// Words of eight hex digits each with a space between; `-` for none.
-pub fn words(words: &[u32]) -> String {
-    spaced(words.iter().map(|word| format!("{word:08x}")).collect())
-}
-
-/// Decimals with a space between; `-` for none.
-pub fn numbers(numbers: &[u64]) -> String {
-    spaced(numbers.iter().map(u64::to_string).collect())
-}
-
-fn spaced(fields: Vec<String>) -> String {
-    if fields.is_empty() {
-        return "-".to_string();
-    }
-    fields.join(" ")
 }
 
 /// `yes` or `no`.

@@ -12,3 +12,4 @@ mod probe;
 mod replay;
 mod show;
 mod step;
+mod vectors;

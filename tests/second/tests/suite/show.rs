@@ -8,14 +8,6 @@ fn bytes_are_two_digits_each() {
 }
 
 #[test]
-fn columns_have_a_space_between() {
-    assert_eq!(show::words(&[]), "-");
-    assert_eq!(show::words(&[0x0a, u32::MAX]), "0000000a ffffffff");
-    assert_eq!(show::numbers(&[]), "-");
-    assert_eq!(show::numbers(&[10, u64::MAX]), "10 18446744073709551615");
-}
-
-#[test]
 fn refusals_show_their_number() {
     assert_eq!(show::answer(Ok("length 1".to_string())), "length 1");
     assert_eq!(show::answer(Err(Refusal::NotOnFamily)), "refused 11");

@@ -1,0 +1,80 @@
+//! Which call a line is, and what calls leave for later ones.
+
+use crate::log::Columns;
+use crate::machine::Bench;
+use crate::script::Ram;
+use crate::words::{Answer, Read, Words};
+use crate::{audit, isa, probe, replay};
+
+/// What calls leave for later ones.
+#[derive(Default)]
+pub struct Calls {
+    log: Columns,
+    bench: Option<Bench>,
+}
+
+impl Calls {
+    /// The answer to a line; comments have none.
+    pub fn answer(&mut self, line: &str) -> Answer {
+        if line.is_empty() || line.starts_with('#') {
+            return Ok(None);
+        }
+        let mut words = Words::of(line);
+        let name = words.text("a call")?;
+        let answer = self.call(name, &mut words)?;
+        words.end()?;
+        Ok(answer)
+    }
+
+    /// The answer to the call of that name.
+    fn call(&mut self, name: &str, words: &mut Words) -> Answer {
+        match name {
+            "family" => isa::family(words),
+            "clocks" => isa::clocks(words),
+            "decode" => isa::decode(words),
+            "encode" => isa::encode(words),
+            "gate" => probe::gate(words),
+            "log" => self.log.set(words),
+            "rows" => self.log.repeat(words),
+            "fresh" => self.fresh(words),
+            "write" => self.bench()?.write(words),
+            "read" => self.bench()?.read(words),
+            "force" => self.bench()?.force(words),
+            "raw" => self.bench()?.raw(words),
+            "high" => self.bench()?.high(words),
+            "slots" => self.bench()?.slots(),
+            "place" => self.bench()?.place(words),
+            "step" => started(&mut self.bench)?.step(words, &self.log),
+            "audit" => audit::audit(Ram::Whole, words),
+            "audit_part" => audit::audit(Ram::Part, words),
+            "audit_hole" => audit::audit(Ram::Hole, words),
+            "audit_input" => audit::audit(Ram::Input, words),
+            "listed" => audit::listed(words),
+            "replay" => replay::replay(Ram::Whole, words, &self.log),
+            "replay_part" => replay::replay(Ram::Part, words, &self.log),
+            "replay_hole" => replay::replay(Ram::Hole, words, &self.log),
+            "replay_input" => replay::replay(Ram::Input, words, &self.log),
+            _ => {
+                words.pass_over();
+                Ok(Some("unknown call".to_string()))
+            }
+        }
+    }
+
+    /// A fresh bench has a log without rows, whether the call is refused or not.
+    fn fresh(&mut self, words: &mut Words) -> Answer {
+        let (bench, answer) = Bench::fresh(words.number()?);
+        self.bench = Some(bench);
+        self.log = Columns::default();
+        Ok(Some(answer))
+    }
+
+    fn bench(&mut self) -> Read<&mut Bench> {
+        started(&mut self.bench)
+    }
+}
+
+/// The bench, which has no state before the first `fresh`.
+fn started(bench: &mut Option<Bench>) -> Read<&mut Bench> {
+    bench.as_mut().ok_or("no `fresh` came before".to_string())
+}

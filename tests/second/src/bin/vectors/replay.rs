@@ -1,0 +1,93 @@
+//! Calls on the replay.
+
+use crate::log::Columns;
+use crate::script::{Ram, Script};
+use crate::words::{Answer, Read, Words};
+use second::audit::{self as library, Replayed};
+use second::isa::MmioAddress;
+use second::show;
+
+/// Most entries a call lends.
+const MOST_LENT: usize = 400;
+/// What lent entries hold before a call, so that entries left alone can be told from entries written.
+const LENT: u32 = 0xaaaa_aaaa;
+/// Lent entries shown past those written, so that a stray write would be seen.
+const SHOWN_PAST: usize = 2;
+
+/// The registers a replay starts with.
+struct Start {
+    addr: MmioAddress,
+    data: u32,
+    flags_0: u32,
+    flags_1: u32,
+    enable: bool,
+}
+
+/// The answer of a replay and the first of the entries lent to it.
+pub fn replay(ram: Ram, words: &mut Words, log: &Columns) -> Answer {
+    let script = Script::read(ram, words)?;
+    let start = start(words)?;
+    words.fixed("lent")?;
+    let mut entries = vec![LENT; words.at_most(MOST_LENT)?];
+    let answer = library::replay(
+        script.family,
+        &script.code,
+        &script.marks,
+        script.entry,
+        start.addr,
+        start.data,
+        start.flags_0,
+        start.flags_1,
+        start.enable,
+        &log.clocks,
+        &log.known,
+        &log.values,
+        &mut entries,
+    );
+    let written = answer.map_or(0, |replayed| 2 * replayed.run.writes as usize);
+    let mut line = show::answer(answer.map(ended)) + " lent";
+    for entry in entries.iter().take(written + SHOWN_PAST) {
+        line += &format!(" {entry:08x}");
+    }
+    Ok(Some(line))
+}
+
+fn start(words: &mut Words) -> Read<Start> {
+    words.fixed("addr")?;
+    let addr = MmioAddress(words.word()?);
+    words.fixed("data")?;
+    let data = words.word()?;
+    words.fixed("flags")?;
+    let (flags_0, flags_1) = (words.word()?, words.word()?);
+    words.fixed("enable")?;
+    let enable = words.one_of("yes or no", &[true, false], show::yes_or_no)?;
+    Ok(Start {
+        addr,
+        data,
+        flags_0,
+        flags_1,
+        enable,
+    })
+}
+
+/// A replay that was not refused.
+fn ended(replayed: Replayed) -> String {
+    let run = replayed.run;
+    format!(
+        "ending {} ip {} addr {:08x} data {:08x} flags {:08x} {:08x} row {} used {} steps {} \
+         writes {} waited {} searched {} left {}",
+        run.ending.word(),
+        replayed.ip.0,
+        replayed.addr.0,
+        replayed.data,
+        replayed.flags_0,
+        replayed.flags_1,
+        run.place.row,
+        run.place.used,
+        run.steps,
+        run.writes,
+        run.wait_clocks,
+        run.ewait_clocks,
+        run.left_clocks
+    )
+}

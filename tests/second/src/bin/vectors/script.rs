@@ -1,0 +1,96 @@
+//! The script of an audit or a replay: code with its marks, and the place it is entered at.
+
+use crate::words::{Read, Words};
+use second::isa::{self, CodeAddress};
+
+/// Most bytes or marks of a script that need not fit a family.
+const MOST_INPUT: usize = 600;
+const EXIT: u8 = 0x7f;
+
+/// Which code and marks a call's name stands for.
+pub enum Ram {
+    /// All of it uploaded.
+    Whole,
+    /// Only the script's own bytes uploaded.
+    Part,
+    /// All but one place uploaded.
+    Hole,
+    /// Code and marks of any size.
+    Input,
+}
+
+pub struct Script {
+    pub family: u8,
+    pub code: Vec<u8>,
+    pub marks: Vec<u8>,
+    pub entry: CodeAddress,
+}
+
+impl Script {
+    pub fn read(ram: Ram, words: &mut Words) -> Read<Script> {
+        let family = match ram {
+            Ram::Input => words.number()?,
+            _ => words.known_family()?,
+        };
+        words.fixed("entry")?;
+        let mut script = Script {
+            family,
+            code: Vec::new(),
+            marks: Vec::new(),
+            entry: CodeAddress(words.number()?),
+        };
+        match ram {
+            Ram::Whole => script.place(words)?,
+            Ram::Part => script.place_part(words)?,
+            Ram::Hole => script.place_around(words)?,
+            Ram::Input => script.fill(words)?,
+        }
+        Ok(script)
+    }
+
+    /// The bytes from a place on, 00 all around them, and only they uploaded.
+    fn place_part(&mut self, words: &mut Words) -> Read<()> {
+        words.fixed("at")?;
+        let at = words.number()?;
+        let bytes = words.bytes()?;
+        let size = isa::code_size(self.family).expect("a known family");
+        self.code = vec![0; size];
+        self.marks = vec![0; size];
+        let places = self.code.iter_mut().zip(&mut self.marks).skip(at);
+        // What has no place in the code RAM is dropped.
+        for ((place, mark), byte) in places.zip(bytes) {
+            (*place, *mark) = (byte, 1);
+        }
+        Ok(())
+    }
+
+    /// The same, and all of it uploaded.
+    fn place(&mut self, words: &mut Words) -> Read<()> {
+        self.place_part(words)?;
+        self.marks.fill(1);
+        Ok(())
+    }
+
+    /// The same, but for one place.
+    fn place_around(&mut self, words: &mut Words) -> Read<()> {
+        self.place(words)?;
+        words.fixed("hole")?;
+        let hole = words.at_most(self.marks.len() - 1)?;
+        self.marks[hole] = 0;
+        Ok(())
+    }
+
+    /// Nothing but exits, of any size.
+    fn fill(&mut self, words: &mut Words) -> Read<()> {
+        words.fixed("size")?;
+        self.code = vec![EXIT; words.at_most(MOST_INPUT)?];
+        words.fixed("marks")?;
+        self.marks = vec![1; words.at_most(MOST_INPUT)?];
+        words.fixed("last")?;
+        let last = words.number()?;
+        if let Some(mark) = self.marks.last_mut() {
+            *mark = last;
+        }
+        Ok(())
+    }
+}
