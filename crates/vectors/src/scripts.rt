@@ -193,7 +193,6 @@ fn show_ended(replayed: Replayed) {
     let ending = replayed.ending;
     let ip = replayed.ip;
     let addr = replayed.addr;
-    let place = replayed.place;
     show::form(
         b" ending exit| ending log| ending poke| ending hang| ending stop",
         number_of(ending),
