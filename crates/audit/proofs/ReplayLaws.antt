@@ -1,29 +1,23 @@
--- What replay answers: the run of a start of the script, an ending that is one, and sums that keep the clock law. Assumes nothing.
-use Prim.Native.Nat.{ℕ, suc, _+_, _*_, _/_, _%_, _^_, _<_}
+-- A start of the script and replay's own state run alike, so replay answers what the start's steps give. Assumes nothing.
+use Prim.Native.Nat.{ℕ, _+_, _*_, _/_, _%_, _^_, _<_}
 use mathlib.Core.Path.{_≡_, refl, ap, ap₂, sym, subst, _∙_}
-use mathlib.Core.Bool.{Bool, true}
+use mathlib.Core.Bool.{true}
 use mathlib.Core.List.{List}
 use native.Mathlib.Omega.{arith}
-use lib.Dec.{leb}
-use Rattle.isa.proofs.Tests.{cond-elim}
 use Rattle.log.specs.Validity.{validLog}
 use Rattle.flags.specs.Flags.{flagsWord0, flagsWord1, flagsFromWords}
 use Rattle.state.specs.Slot.{slotOf}
 use Rattle.flags.specs.declared.flags.Flags.{Flags}
-use Rattle.state.specs.declared.slots.Mode.{Mode}
 use Rattle.state.specs.declared.slots.SlotName.{SlotName}
 use Rattle.state.specs.declared.state.State.{State}
 use Rattle.state.proofs.SlotLaws.{has-a}
 use Rattle.script.specs.Input.{scriptFits}
-use Rattle.replay.specs.Replay.{replayState, endingOf, toldOf, fullSteps, fullRun, replayedRun, replayOf}
+use Rattle.replay.specs.Replay.{replayState, toldOf, fullSteps, fullRun, replayedRun, replayOf}
 use Rattle.replay.specs.Run.{Run, begun, runFor}
 use Rattle.audit.specs.Start.{Start}
-use Rattle.replay.specs.declared.replays.Ending.{Ending}
 use Rattle.replay.specs.declared.replays.ReplayAnswer.{ReplayAnswer}
 use Rattle.replay.proofs.Alike.{Alike, alike-run}
-use Rattle.replay.proofs.RunClocks.{run-clocks}
 use Rattle.script.proofs.Scripts.{Fits, fits-script}
-use Rattle.replay.proofs.Settled.{stops}
 use Rattle.replay.proofs.Filled.{filled-fetches}
 use Rattle.audit.proofs.Starts.{start-fetches}
 

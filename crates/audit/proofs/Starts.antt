@@ -1,13 +1,13 @@
 -- Starts: every start fetches as audited and agrees with an auditor that knows nothing, and there is one for each ADDR and DATA. Assumes nothing.
-use Prim.Native.Nat.{ℕ, zero, suc, _-_, _^_, _≤_, _<_}
-use mathlib.Core.Path.{_≡_, refl, sym, ap, _∙_}
+use Prim.Native.Nat.{ℕ, zero, suc, _-_, _^_, _<_}
+use mathlib.Core.Path.{_≡_, refl, sym, _∙_}
 use mathlib.Core.Bool.{true, and-false}
 use mathlib.Core.List.{List, [], _∷_, _++_}
 use native.Mathlib.Omega.{arith}
-use lib.Dec.{leb, eqb}
-use lib.ListN.{length, getD, replicate, length-append, length-replicate, List·getD-append}
+use lib.Dec.{leb}
+use lib.ListN.{length, getD, replicate, List·getD-append}
 use borrow.Author.Tests.{leb-true}
-use Rattle.families.specs.Family.{codeSize, pausesMemory}
+use Rattle.families.specs.Family.{pausesMemory}
 use Rattle.isa.proofs.Tests.{both-left, both-right, bounds}
 use Rattle.fetch.specs.Fetch.{fetchOf}
 use Rattle.fetch.proofs.FetchLaws.{same-fetch}

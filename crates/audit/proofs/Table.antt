@@ -1,7 +1,7 @@
 -- The starred scripts of 01, "Scripts on both sides of the line", by computation. Assumes nothing.
 use Prim.Native.Nat.{ℕ, _-_}
 use mathlib.Core.Path.{_≡_, refl}
-use mathlib.Core.Bool.{Bool, true, false}
+use mathlib.Core.Bool.{true, false}
 use mathlib.Core.List.{List, [], _∷_, _++_}
 use lib.ListN.{length, replicate}
 use Rattle.families.specs.Family.{byFamily, codeSize}

@@ -1,5 +1,5 @@
 -- Demand 3: what a verdict of the auditor means for whole runs. One claim, `Demand3`, about every verdict.
-use Prim.Native.Nat.{ℕ, suc, _+_, _≤_, _<_}
+use Prim.Native.Nat.{ℕ, suc, _+_, _≤_}
 use mathlib.Core.Path.{_≡_}
 use mathlib.Core.Logic.{_⊎_}
 use mathlib.Core.Bool.{true, false}

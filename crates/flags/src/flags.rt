@@ -1,6 +1,6 @@
 // The 32 flags: bit f of a word for flag f.
 ghost use mathlib.Core.Path.{_≡_};
-ghost use Rattle.flags.specs.Flags.{setBit, clearBit, changedFlags, overrides1, pausedOf, flagsWord0, flagsWord1, flagsFromWords};
+ghost use Rattle.flags.specs.Flags.{changedFlags, pausedOf, flagsWord0, flagsWord1, flagsFromWords};
 
 // What an instruction does to a flag.
 pub enum Change {

@@ -12,13 +12,12 @@ use Rattle.state.specs.declared.slots.Mode.{Mode}
 use Rattle.state.specs.declared.slots.Slot.{Slot}
 use Rattle.state.specs.declared.slots.SlotName.{SlotName}
 use Rattle.state.specs.declared.state.State.{State}
-use Rattle.host.specs.Access.{freshOf, done, refused, afterWrite, isAbort, isTaken, writeOf, readingOf, readOf}
+use Rattle.host.specs.Access.{freshOf, afterWrite, isAbort, isTaken, writeOf, readingOf, readOf}
 use Rattle.host.specs.Code.{afterUpload}
-use Rattle.host.specs.Entry.{entryPoint}
 use Rattle.state.specs.Execution.{someSlotExecutes}
 use Rattle.host.specs.Promises.{outcomeNumber, readingNumber, freshRefusal, writeRefusal, isReadable, readRefusal, keptBits, Unmoved, Spares, Stops, Begins, HostWrites, HostReads}
 use Rattle.host.specs.Register.{triggerAt, registerAt, isWritable}
-use Rattle.host.specs.Trigger.{isStart, slotNamed, startedAt, aborted, afterTrigger}
+use Rattle.host.specs.Trigger.{isStart, slotNamed, aborted, afterTrigger}
 use Rattle.host.proofs.BackLaws.{Roomy, word-back}
 use Rattle.host.proofs.RegisterLaws.{register-in-room}
 use Rattle.host.specs.declared.access.Access.{Access}

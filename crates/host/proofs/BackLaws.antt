@@ -1,14 +1,13 @@
 -- What was written to a register reads back. Assumes nothing.
 use Prim.Native.Nat.{ℕ, _+_, _*_, _/_, _%_, _^_, _≤_, _<_}
 use mathlib.Core.Path.{_≡_, refl, subst}
-use mathlib.Core.Bool.{Bool, true, false, cond, not}
-use mathlib.Core.List.{List, [], _∷_, _++_, append-assoc}
+use mathlib.Core.Bool.{true, false}
+use mathlib.Core.List.{List, _++_, append-assoc}
 use native.Mathlib.Omega.{arith}
 use lib.Dec.{eqb}
-use lib.ListN.{length, getD, take, drop, length-take}
+use lib.ListN.{length, getD, take, drop}
 use lib.Seq.{sets, sets-eq, getD-append-add, length-take-le}
 use borrow.Author.Tests.{eqb-true, eqb-false}
-use Rattle.families.specs.Family.{knownFamily}
 use Rattle.isa.proofs.Tests.{cond-elim}
 use Rattle.isa.specs.Writer.{leBytes}
 use Rattle.isa.specs.declared.addresses.CodeAddress.{CodeAddress}

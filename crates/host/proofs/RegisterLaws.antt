@@ -1,14 +1,14 @@
 -- Where registers stand, from facts on numbers. Assumes nothing.
-use Prim.Native.Nat.{ℕ, _+_, _-_, _%_, _<_, _≤_}
-use mathlib.Core.Path.{_≡_, refl}
-use mathlib.Core.Bool.{Bool, true, false, cond, _&&_}
+use Prim.Native.Nat.{ℕ, _-_, _%_, _≤_}
+use mathlib.Core.Path.{_≡_}
+use mathlib.Core.Bool.{_&&_}
 use native.Mathlib.Omega.{arith}
 use lib.Dec.{ltb, eqb}
 use borrow.Author.Tests.{ltb-true, eqb-true}
 use Rattle.families.specs.Family.{byFamily, codeSize, within}
 use Rattle.isa.proofs.Tests.{cond-elim, inside, outside, both-left, both-right}
 use Rattle.isa.specs.declared.addresses.MmioAddress.{MmioAddress}
-use Rattle.host.specs.Register.{isHigh, ifHigh, highWindow, codeIn, codeAt, registerAt, InRoom}
+use Rattle.host.specs.Register.{isHigh, highWindow, codeIn, codeAt, registerAt, InRoom}
 use Rattle.host.specs.declared.registers.Register.{Register}
 
 module _ (family at : ℕ) where

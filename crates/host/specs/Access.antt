@@ -1,6 +1,6 @@
 -- A fresh state, and the host's writes and reads (01, "Host registers"; 004, "MMIO registers").
-use Prim.Native.Nat.{ℕ, _+_, _*_, _/_, _%_}
-use mathlib.Core.Bool.{Bool, true, false, cond, not, _&&_, _||_}
+use Prim.Native.Nat.{ℕ, _+_, _/_, _%_}
+use mathlib.Core.Bool.{Bool, false, cond, not, _&&_, _||_}
 use lib.Dec.{eqb}
 use lib.ListN.{replicate}
 use Rattle.families.specs.Family.{knownFamily}

@@ -5,7 +5,7 @@ ghost use Prim.Native.Nat.{_≤_};
 ghost use lib.ListN.{length, take};
 ghost use Rattle.text.specs.Put.{Stored};
 ghost use Rattle.log.specs.Validity.{validLog};
-ghost use Rattle.records.specs.Records.{maxRows};
+ghost use Rattle.log.specs.Validity.{maxRows};
 ghost use Rattle.records.specs.Job.{CountsFit, clocksOf, knownOf, valuesOf};
 ghost use Rattle.job.specs.Lines.{rowLines};
 ghost use Rattle.job.specs.Report.{lastLines, runLines, jobLines, Reports};

@@ -1,20 +1,28 @@
 -- Which columns are a log and which places lie in it (01, "Steps and time" and refusal 15).
 use Prim.Native.Nat.{ℕ, _^_}
-use mathlib.Core.Bool.{Bool, true, false, cond, _&&_}
+use mathlib.Core.Bool.{Bool, true, cond, _&&_}
 use mathlib.Core.List.{List, [], _∷_}
 use lib.ListN.{length, getD}
 use lib.Dec.{leb, ltb, eqb}
 use Rattle.log.specs.declared.place.Place.{Place}
 
--- every row has 1 to 2^48 clocks
+-- a row has 1 to 2^48 clocks
+abbrev pub clocksInRange : ℕ → Bool
+clocksInRange c = leb 1 c && leb c (2 ^ 48)
+
+-- every row has
 abbrev pub rowsInRange : List ℕ → Bool
 rowsInRange [] = true
-rowsInRange (c ∷ cs) = (leb 1 c && leb c (2 ^ 48)) && rowsInRange cs
+rowsInRange (c ∷ cs) = clocksInRange c && rowsInRange cs
+
+-- the most rows of a log
+abbrev pub maxRows : ℕ
+maxRows = 1024
 
 -- at most 1,024 rows, columns of equal length, clocks in range
 unfoldable pub validLog : List ℕ → List ℕ → List ℕ → Bool
 validLog clocks known values =
-    leb (length clocks) 1024 && (eqb (length known) (length clocks) && (eqb (length values) (length clocks) && rowsInRange clocks))
+    leb (length clocks) maxRows && (eqb (length known) (length clocks) && (eqb (length values) (length clocks) && rowsInRange clocks))
 
 -- in a row that has clocks left, or at the log's end: the row count, none used
 unfoldable pub validPlace : List ℕ → Place → Bool

@@ -13,6 +13,8 @@ pub use ewait::Released;
 pub use ewait::event_wait;
 pub use place::Place;
 pub use place::clocks_left;
+pub use validity::MAX_ROWS;
+pub use validity::clocks_in_range;
 pub use validity::valid_log;
 pub use validity::valid_place;
 pub use wait::Waited;

@@ -1,12 +1,20 @@
 // Which columns are a log, and which places lie in it.
 ghost use mathlib.Core.Path.{_≡_};
-ghost use Rattle.log.specs.Validity.{rowsInRange, validLog, validPlace};
+ghost use Rattle.log.specs.Validity.{clocksInRange, rowsInRange, validLog, validPlace};
 use crate::column::clocks_at;
 use crate::place::Place;
 
-const MAX_ROWS: usize = 1024;
+// The most rows of a log.
+pub const MAX_ROWS: usize = 1024;
 
 const MAX_CLOCKS: u64 = 281474976710656;
+
+// Whether a row may have so many clocks: 1 to 2^48.
+pub fn clocks_in_range(clocks: u64) -> bool
+    ensures { λ r. ⌜ r ≡ clocksInRange clocks ⌝ }
+{
+    1 <= clocks && clocks <= MAX_CLOCKS
+}
 
 // Whether every row has 1 to 2^48 clocks.
 fn rows_in_range(clocks: &[u64]) -> bool
@@ -14,11 +22,7 @@ fn rows_in_range(clocks: &[u64]) -> bool
 {
     let mut row = 0;
     while row < clocks.len() {
-        let c = clocks[row];
-        if c < 1 {
-            return false;
-        }
-        if MAX_CLOCKS < c {
+        if !clocks_in_range(clocks[row]) {
             return false;
         }
         row += 1;

@@ -1,6 +1,6 @@
 -- The two ways in which code takes a turn after a fetch. Assumes nothing.
 use Prim.Native.Nat.{ℕ, _+_}
-use mathlib.Core.Path.{_≡_, refl, sym, ap, ap₂, _∙_}
+use mathlib.Core.Path.{_≡_, sym, ap, ap₂, _∙_}
 use mathlib.Core.Bool.{Bool}
 use mathlib.Core.List.{List}
 use Rattle.isa.specs.declared.addresses.CodeAddress.{CodeAddress}

@@ -1,6 +1,6 @@
 -- One step of one slot (01, "Steps and time" and "Other refusals").
 use Prim.Native.Nat.{ℕ}
-use mathlib.Core.Bool.{Bool, cond, _&&_}
+use mathlib.Core.Bool.{cond, _&&_}
 use mathlib.Core.List.{List}
 use Rattle.families.specs.Family.{knownFamily}
 use Rattle.isa.specs.declared.addresses.CodeAddress.{CodeAddress}

@@ -11,13 +11,13 @@ use lib.Seq.{take-suc-set, length-take-le}
 use borrow.Author.Tests.{eqb-true, eq-eqb, le-leb, not-false}
 use Rattle.isa.proofs.Tests.{cond-elim, both-left, both-right}
 use Rattle.host.specs.Access.{freshOf, writeOf}
-use Rattle.log.specs.Validity.{rowsInRange, validLog}
+use Rattle.log.specs.Validity.{clocksInRange, rowsInRange, validLog}
 use Rattle.state.specs.declared.state.State.{State}
 use Rattle.records.specs.Inside.{HasRoom}
 use Rattle.records.specs.Job.{CountsFit, countOf, oneMore, counted, emptyJob, withState, withRange, withRow, withContent, afterRecord, clocksOf, knownOf, valuesOf}
 use Rattle.records.specs.Reader.{Sound}
 use Rattle.records.specs.Records.{kindOf}
-use Rattle.records.specs.Refusals.{inRange, isBadRow}
+use Rattle.records.specs.Refusals.{isBadRow}
 use Rattle.records.specs.Words.{byteAt, wordAt, longAt}
 use Rattle.records.specs.declared.contents.Counts.{Counts}
 use Rattle.records.specs.declared.contents.Job.{Job}
@@ -81,9 +81,9 @@ empty-columns = record { clocks = length-replicate {A = ℕ} 1024 0; known = len
 both-true : (a b : Bool) → a ≡ true → b ≡ true → (a && b) ≡ true
 both-true a b p q = rw (p, q)
 
-range-more : (cs : List ℕ) (c : ℕ) → rowsInRange cs ≡ true → inRange c ≡ true → rowsInRange (cs ++ (c ∷ [])) ≡ true
-range-more [] c h e = both-true (inRange c) true e refl
-range-more (x ∷ cs) c h e = both-true (inRange x) (rowsInRange (cs ++ (c ∷ []))) (both-left (inRange x) (rowsInRange cs) h) (range-more cs c (both-right (inRange x) (rowsInRange cs) h) e)
+range-more : (cs : List ℕ) (c : ℕ) → rowsInRange cs ≡ true → clocksInRange c ≡ true → rowsInRange (cs ++ (c ∷ [])) ≡ true
+range-more [] c h e = both-true (clocksInRange c) true e refl
+range-more (x ∷ cs) c h e = both-true (clocksInRange x) (rowsInRange (cs ++ (c ∷ []))) (both-left (clocksInRange x) (rowsInRange cs) h) (range-more cs c (both-right (clocksInRange x) (rowsInRange cs) h) e)
 
 -- a record that is no row leaves the clocks as they are
 kept : (a b c d : Bool) (j : Job) (s t : State) (first last n k v : ℕ) → d ≡ false
@@ -94,10 +94,10 @@ kept false false true d j s t first last n k v e = refl
 kept false false false true j s t first last n k v e = absurd (let z : _≡_ {A = ℕ} 0 1 = cc in let w : ⊥ = omega arith in w)
 kept false false false false j s t first last n k v e = refl
 
-good-row : (kind : ℕ) (clocks : ℕ) → kind ≡ 1 → (eqb kind 1 && not (inRange clocks)) ≡ false → inRange clocks ≡ true
-good-row kind clocks e h = not-false (inRange clocks) (rw (eq-eqb kind 1 e) at h)
+good-row : (kind : ℕ) (clocks : ℕ) → kind ≡ 1 → (eqb kind 1 && not (clocksInRange clocks)) ≡ false → clocksInRange clocks ≡ true
+good-row kind clocks e h = not-false (clocksInRange clocks) (rw (eq-eqb kind 1 e) at h)
 
-module _ (kind : ℕ) (rest : List ℕ) (j : Job) (size : Columns j) (room : HasRoom kind (j .counts)) (good : (eqb kind 1 && not (inRange (longAt rest 1))) ≡ false) where
+module _ (kind : ℕ) (rest : List ℕ) (j : Job) (size : Columns j) (room : HasRoom kind (j .counts)) (good : (eqb kind 1 && not (clocksInRange (longAt rest 1))) ≡ false) where
   rows-after : rowsInRange (clocksOf j) ≡ true → rowsInRange (take (oneMore 1 kind (j .counts .rows)) (withContent kind rest j .clocks)) ≡ true
   unfolding withContent oneMore
   rows-after h = go (eqb kind 1) refl

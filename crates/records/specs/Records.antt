@@ -3,6 +3,8 @@ use Prim.Native.Nat.{ℕ}
 use mathlib.Core.Bool.{Bool, cond, not}
 use mathlib.Core.List.{List, [], _∷_}
 use lib.Dec.{ltb, eqb}
+use Rattle.log.specs.Validity.{maxRows}
+use Rattle.script.specs.Input.{maxRanges}
 use Rattle.records.specs.declared.kinds.Kind.{Kind}
 
 abbrev pub family : ℕ
@@ -20,15 +22,9 @@ row = 0x01
 abbrev pub end : ℕ
 end = 0x00
 
--- how many a job may have
-abbrev pub maxRanges : ℕ
-maxRanges = 64
-
+-- the most host writes of a job
 abbrev pub maxWrites : ℕ
 maxWrites = 512
-
-abbrev pub maxRows : ℕ
-maxRows = 1024
 
 -- a row of the table of kinds
 pub record TableRow : Type 0 where

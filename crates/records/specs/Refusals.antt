@@ -1,11 +1,12 @@
 -- Why a record is refused (01, "A job, and one report whole"). `rest` is the input from the record on; the end of input counts as a
 -- record, of which no byte is left.
-use Prim.Native.Nat.{ℕ, _+_, _^_}
+use Prim.Native.Nat.{ℕ, _+_}
 use mathlib.Core.Bool.{Bool, cond, not, _&&_, _||_}
 use mathlib.Core.List.{List, [], _∷_}
 use lib.Dec.{leb, ltb, eqb}
 use lib.ListN.{length}
-use Rattle.families.specs.Family.{knownFamily, within}
+use Rattle.families.specs.Family.{knownFamily}
+use Rattle.log.specs.Validity.{clocksInRange}
 use Rattle.host.specs.Access.{writeOf}
 use Rattle.state.specs.Execution.{someSlotExecutes}
 use Rattle.host.specs.Promises.{outcomeNumber}
@@ -39,13 +40,9 @@ isBadRange rest = eqb (byteAt rest 0) range && ltb (wordAt rest 5) (wordAt rest 
 unfoldable pub writeNumber : List ℕ → State → ℕ
 writeNumber rest s = cond (eqb (byteAt rest 0) hostWrite) (outcomeNumber (writeOf s (record { 0 = wordAt rest 1 }) (wordAt rest 5) .outcome)) 0
 
--- a row has 1 to 2^48 clocks
-abbrev pub inRange : ℕ → Bool
-inRange clocks = within 1 clocks (2 ^ 48)
-
 -- clocks out of range
 unfoldable pub isBadRow : List ℕ → Bool
-isBadRow rest = eqb (byteAt rest 0) row && not (inRange (longAt rest 1))
+isBadRow rest = eqb (byteAt rest 0) row && not (clocksInRange (longAt rest 1))
 
 -- bytes after end
 unfoldable pub hasBytesAfter : List ℕ → Bool

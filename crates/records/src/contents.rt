@@ -2,7 +2,8 @@
 ghost use mathlib.Core.Path.{_≡_};
 ghost use Prim.Native.Nat.{_+_, _<_, _≤_};
 ghost use Rattle.host.specs.Access.{freshOf, writeOf};
-ghost use Rattle.records.specs.Records.{maxRanges, maxRows};
+ghost use Rattle.log.specs.Validity.{maxRows};
+ghost use Rattle.script.specs.Input.{maxRanges};
 ghost use Rattle.records.specs.Words.{byteAt};
 ghost use Rattle.records.specs.Job.{CountsFit, countOf, oneMore, emptyJob, withState, withRange, withRow, withContent, afterRecord};
 ghost use Rattle.records.specs.Job.{counted as Job·counted};

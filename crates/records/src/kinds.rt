@@ -13,11 +13,8 @@ pub(crate) const ROW: u8 = 1;
 
 pub(crate) const END: u8 = 0;
 
-const MAX_RANGES: usize = 64;
-
+// The most host writes of a job.
 const MAX_WRITES: usize = 512;
-
-const MAX_ROWS: usize = 1024;
 
 // What is fixed for a kind.
 pub struct Kind {
@@ -42,9 +39,9 @@ pub(crate) fn kind_of(byte: u8) -> Kind
 {
     match byte {
         FAMILY => entry(1, 1, 1),
-        RANGE => entry(2, 8, MAX_RANGES),
+        RANGE => entry(2, 8, script::MAX_RANGES),
         HOST_WRITE => entry(3, 8, MAX_WRITES),
-        ROW => entry(4, 16, MAX_ROWS),
+        ROW => entry(4, 16, log::MAX_ROWS),
         END => entry(5, 0, 1),
         _ => entry(0, 0, 0),
     }

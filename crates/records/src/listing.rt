@@ -1,7 +1,7 @@
 // Why a record is refused.
 ghost use mathlib.Core.Path.{_≡_};
 ghost use Rattle.host.specs.Promises.{outcomeNumber};
-ghost use Rattle.records.specs.Refusals.{isUnknown, isCutShort, isTooMany, isBadFamily, isBadRange, writeNumber, isBadRow, hasBytesAfter, endsIdle, refusalOf, inRange};
+ghost use Rattle.records.specs.Refusals.{isUnknown, isCutShort, isTooMany, isBadFamily, isBadRange, writeNumber, isBadRow, hasBytesAfter, endsIdle, refusalOf};
 use crate::contents::Counts;
 use crate::contents::count_of;
 use crate::kinds::END;
@@ -17,9 +17,6 @@ use crate::words::word_at;
 use host::Outcome;
 use isa::MmioAddress;
 use state::State;
-
-// The most clocks that a row may have.
-const MAX_CLOCKS: u64 = 281474976710656;
 
 // An unknown kind, or the end of input.
 fn is_unknown(rest: &[u8]) -> bool
@@ -75,16 +72,10 @@ fn write_number(rest: &[u8], state: State) -> u8
     }
 }
 
-fn in_range(clocks: u64) -> bool
-    ensures { λ r. ⌜ r ≡ inRange clocks ⌝ }
-{
-    1 <= clocks && clocks <= MAX_CLOCKS
-}
-
 fn is_bad_row(rest: &[u8]) -> bool
     ensures { λ r. ⌜ r ≡ isBadRow (now (rest .entry)) ⌝ }
 {
-    byte_at(rest, 0) == ROW && !in_range(long_at(rest, 1))
+    byte_at(rest, 0) == ROW && !log::clocks_in_range(long_at(rest, 1))
 }
 
 fn has_bytes_after(rest: &[u8]) -> bool

@@ -1,4 +1,4 @@
-// Every refusal and fault with its number, in one place.
+// The reasons that calls answer as enums, with their numbers.
 mod refusals;
 
 pub use refusals::Fault;

@@ -1,13 +1,11 @@
 -- How a replay ends, and its sums. Assumes nothing.
-use Prim.Native.Nat.{ℕ, suc, _+_, _*_, _/_, _%_, _^_, _<_}
-use mathlib.Core.Path.{_≡_, refl, ap, ap₂, sym, subst, _∙_}
+use Prim.Native.Nat.{ℕ}
+use mathlib.Core.Path.{_≡_, refl}
 use mathlib.Core.Bool.{Bool, true}
 use mathlib.Core.List.{List}
-use native.Mathlib.Omega.{arith}
 use lib.Dec.{leb}
 use Rattle.isa.proofs.Tests.{cond-elim}
 use Rattle.log.specs.Validity.{validLog}
-use Rattle.flags.specs.Flags.{flagsWord0, flagsWord1, flagsFromWords}
 use Rattle.state.specs.Slot.{slotOf}
 use Rattle.flags.specs.declared.flags.Flags.{Flags}
 use Rattle.state.specs.declared.slots.Mode.{Mode}
@@ -16,7 +14,7 @@ use Rattle.state.specs.declared.state.State.{State}
 use Rattle.state.proofs.SlotLaws.{has-a}
 use Rattle.script.specs.Input.{scriptFits}
 use Rattle.replay.specs.Replay.{replayState, endingOf, toldOf, fullSteps, replayedRun, replayOf, EndsRight}
-use Rattle.replay.specs.Run.{Run, begun, runFor}
+use Rattle.replay.specs.Run.{Run}
 use Rattle.replay.specs.declared.replays.Ending.{Ending}
 use Rattle.replay.specs.declared.replays.ReplayAnswer.{ReplayAnswer}
 use Rattle.replay.proofs.RunClocks.{run-clocks}

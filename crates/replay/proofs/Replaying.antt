@@ -1,25 +1,21 @@
 -- The replay loop against the run of its steps. Assumes nothing.
 use Prim.Native.Nat.{ℕ, zero, suc, _+_, _-_, _*_, _^_, _≤_, _<_}
-use mathlib.Core.Path.{_≡_, refl, sym, ap, subst, _∙_}
-use mathlib.Core.Bool.{Bool, true, false, _&&_}
-use mathlib.Core.List.{List, [], _∷_, _++_, append-assoc}
-use native.Mathlib.Nat.{add-zero}
+use mathlib.Core.Path.{_≡_, refl, sym, ap, _∙_}
+use mathlib.Core.Bool.{Bool, true, false}
+use mathlib.Core.List.{List, [], _∷_, _++_}
 use native.Mathlib.Omega.{arith}
-use lib.ListN.{length, take, drop, getD, replicate, length-append, length-drop, List·getD-append}
-use lib.Seq.{sets, sets-eq, take-at, drop-append-add, drop-drop, getD-take}
-use lib.Dec.{eqb, leb}
-use borrow.Author.Tests.{le-leb}
+use lib.ListN.{length, take, drop, length-append, length-drop, List·getD-append}
+use lib.Seq.{sets, sets-eq, take-at, drop-append-add, drop-drop}
 use Rattle.families.specs.Family.{knownFamily}
 use Rattle.isa.specs.declared.addresses.CodeAddress.{CodeAddress}
 use Rattle.isa.specs.declared.addresses.MmioAddress.{MmioAddress}
 use Rattle.refusals.specs.declared.refusals.Unreadable.{Unreadable}
-use Rattle.fetch.specs.Fetch.{codeRam, fetchOf}
-use Rattle.log.specs.Left.{leftOf}
+use Rattle.fetch.specs.Fetch.{fetchOf}
 use Rattle.log.specs.Validity.{validLog, validPlace}
 use Rattle.log.specs.declared.place.Place.{Place}
 use Rattle.log.proofs.LeftLaws.{left-most}
-use Rattle.state.specs.Slot.{hasSlot, isRunning, slotOf, withSlot}
-use Rattle.machine.specs.Step.{unmoved, afterTurn, stepOf}
+use Rattle.state.specs.Slot.{isRunning, slotOf}
+use Rattle.machine.specs.Step.{afterTurn}
 use Rattle.turn.specs.Turn.{turnOf}
 use Rattle.flags.specs.declared.flags.Flags.{Flags}
 use Rattle.state.specs.declared.slots.Mode.{Mode}

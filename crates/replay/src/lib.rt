@@ -2,7 +2,6 @@
 mod replays;
 
 pub use replays::Ending;
-pub use replays::Progress;
 pub use replays::ReplayAnswer;
 pub use replays::Replayed;
 pub use replays::replay;

@@ -1,5 +1,5 @@
 -- What may be audited (01, the auditor's row 9), and which addresses the ranges list.
-use Prim.Native.Nat.{ℕ}
+use Prim.Native.Nat.{ℕ, _*_}
 use mathlib.Core.Bool.{Bool, true, false, _&&_, _||_}
 use mathlib.Core.List.{List, [], _∷_}
 use lib.ListN.{length}
@@ -28,9 +28,13 @@ unfoldable pub scriptFits : ℕ → List ℕ → List ℕ → ℕ → Bool
 scriptFits family code marks entry =
     knownFamily family && (eqb (length code) (codeSize family) && (eqb (length marks) (codeSize family) && (marksPlain marks && leb entry (highestEntry family))))
 
--- at most 64 ranges, two entries each
+-- the most ranges of a script
+abbrev pub maxRanges : ℕ
+maxRanges = 64
+
+-- at most so many ranges, two entries each
 unfoldable pub rangesFit : List ℕ → Bool
-rangesFit ranges = leb (length ranges) 128 && rangesPaired ranges
+rangesFit ranges = leb (length ranges) (2 * maxRanges) && rangesPaired ranges
 
 abbrev pub inputFits : ℕ → List ℕ → List ℕ → ℕ → List ℕ → Bool
 inputFits family code marks entry ranges = scriptFits family code marks entry && rangesFit ranges

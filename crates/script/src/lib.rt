@@ -3,5 +3,6 @@ mod input;
 mod ranges;
 
 pub use input::script_fits;
+pub use ranges::MAX_RANGES;
 pub use ranges::listed;
 pub use ranges::ranges_fit;

@@ -4,7 +4,8 @@ ghost use Rattle.families.specs.Family.{within};
 ghost use Rattle.script.specs.Input.{listedIn, rangesPaired, rangesFit};
 use isa::MmioAddress;
 
-const MAX_RANGES: usize = 64;
+// The most ranges of a script.
+pub const MAX_RANGES: usize = 64;
 
 // Whether a range holds the address. A first without its last holds nothing.
 pub fn listed(ranges: &[u32], address: MmioAddress) -> bool

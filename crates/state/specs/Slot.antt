@@ -1,6 +1,6 @@
 -- Slots and their modes (01, "Four card families" and "Steps and time").
 use Prim.Native.Nat.{ℕ}
-use mathlib.Core.Bool.{Bool, true, false, _&&_}
+use mathlib.Core.Bool.{Bool, true, false}
 use lib.Dec.{leb}
 use Rattle.families.specs.Family.{slotCount}
 use Rattle.state.specs.declared.slots.Mode.{Mode}

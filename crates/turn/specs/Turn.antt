@@ -1,6 +1,6 @@
 -- What a fetched instruction does, a function for each part of the state (01, "Instructions" and "Steps and time").
 use Prim.Native.Nat.{ℕ, _+_}
-use mathlib.Core.Bool.{Bool, true, false, cond}
+use mathlib.Core.Bool.{Bool, cond}
 use mathlib.Core.List.{List}
 use Rattle.families.specs.Family.{unknownHangs}
 use Rattle.isa.specs.declared.addresses.CodeAddress.{CodeAddress}

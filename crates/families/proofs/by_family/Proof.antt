@@ -1,5 +1,5 @@
 -- Assumes nothing.
-use borrow.Author.Tests.{eq-eqb, ne-eqb}
+use borrow.Author.Tests.{ne-eqb}
 use Rattle.families.specs.Family.{byFamily}
 use Rattle.families.proofs.by_family.Statement.{statement}
 use Rattle.families.proofs.by_family.Tie as tie

@@ -1,6 +1,5 @@
 -- What is left to test is what was to be tested. A byte with a mark lies within the marks, so the index fits. Assumes nothing.
 use denote.Ref.{now}
-use Prim.Native.Nat.{_+_, _-_}
 use mathlib.Core.Path.{_≡_, refl, sym, _∙_}
 use native.Mathlib.Omega.{arith}
 use lib.ListN.{getD}

@@ -1,13 +1,11 @@
 -- The verdict from the loop's place on is the verdict, and the counts stay small. Assumes nothing.
 use denote.Ref.{now}
 use Prim.Native.Nat.{ℕ, _+_, _-_, _≤_, _<_}
-use mathlib.Core.Path.{_≡_, refl, sym, ap, subst, _∙_}
-use mathlib.Core.Bool.{true}
-use mathlib.Core.List.{List}
+use mathlib.Core.Path.{_≡_, sym, ap, subst, _∙_}
 use native.Mathlib.Omega.{arith}
 use lib.ListN.{length-take}
 use borrow.Author.Needs.{needs}
-use Rattle.families.specs.Family.{codeSize, highestEntry}
+use Rattle.families.specs.Family.{codeSize}
 use Rattle.isa.specs.declared.instructions.Instruction.{Instruction}
 use Rattle.isa.specs.declared.reader.Decoded.{Decoded}
 use Rattle.refusals.specs.declared.refusals.Unreadable.{Unreadable}
@@ -16,7 +14,7 @@ use Rattle.fetch.specs.Fetch.{fetchOf, reasonOf}
 use Rattle.fetch.proofs.Places.{size-small}
 use Rattle.actions.specs.Action.{actionOf}
 use Rattle.actions.specs.declared.actions.Action.{Action}
-use Rattle.audit.specs.Auditor.{faultOf, faultAt, judgeOf, knowNext, waitLength}
+use Rattle.audit.specs.Auditor.{faultOf, faultAt, judgeOf, knowNext}
 use Rattle.refusals.specs.declared.refusals.Fault.{Fault}
 use Rattle.audit.specs.declared.auditor.Judgement.{Judgement}
 use Rattle.audit.specs.declared.auditor.Knowledge.{Knowledge}

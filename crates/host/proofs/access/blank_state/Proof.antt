@@ -1,7 +1,6 @@
 -- Assumes nothing.
 use Rattle.host.specs.Access.{blankState}
 use mathlib.Core.Path.{refl}
-use borrow.Author.Needs.{needs}
 use Rattle.host.proofs.access.blank_state.Statement.{statement}
 use Rattle.host.proofs.access.blank_state.Tie as tie
 

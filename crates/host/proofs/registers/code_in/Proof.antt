@@ -1,7 +1,6 @@
 -- Assumes nothing.
 use borrow.Author.Tests.{lt-ltb, le-ltb}
 use mathlib.Core.Logic.{⊎-elim}
-use borrow.Author.Needs.{needs}
 use Rattle.host.proofs.registers.code_in.Statement.{statement}
 use Rattle.host.proofs.registers.code_in.Tie as tie
 

@@ -2,14 +2,12 @@
 use denote.Ref.{now}
 use Prim.Native.Nat.{ℕ, _+_, _-_, _%_, _^_, _<_}
 use mathlib.Core.Path.{_≡_, refl, sym, ap, ap₂, subst, _∙_}
-use mathlib.Core.List.{List}
 use native.Mathlib.Omega.{arith}
 use native.Mathlib.Nat.{mod-lt}
 use lib.Dec.{lit<}
 use lib.ListN.{length, getD}
 use borrow.Author.Needs.{needs}
-use Rattle.log.specs.Left.{leftOf}
-use Rattle.log.specs.Ewait.{hasReading, in64, passing, searchFrom, ewaitOf, OnReading, passedBy, leftAfter, SameReadings, Ewaits}
+use Rattle.log.specs.Ewait.{hasReading, in64, passing, searchFrom, OnReading, SameReadings, Ewaits}
 use Rattle.log.specs.declared.place.Place.{Place}
 use Rattle.log.specs.declared.ewait.Released.{Released}
 use Rattle.log.proofs.EwaitLaws.{in64-start, in64-end, in64-here, in64-next, ewaits}

@@ -1,11 +1,12 @@
 -- The rows not yet looked at are in range where all are. Assumes nothing.
 use Prim.Native.Nat.{_-_}
-use mathlib.Core.Path.{_≡_, _∙_}
+use mathlib.Core.Path.{_≡_, sym, _∙_}
 use native.Mathlib.Omega.{arith}
 use lib.ListN.{length, drop}
 use borrow.Author.Needs.{needs}
+use borrow.Author.Tests.{not-true, not-false}
 use Rattle.log.specs.Validity.{rowsInRange}
-use Rattle.log.proofs.Ranges.{range-next, range-low, range-high, range-end}
+use Rattle.log.proofs.Ranges.{range-next, range-not, range-end}
 use Rattle.log.proofs.validity.rows_in_range.Statement.{statement}
 use Rattle.log.proofs.validity.rows_in_range.Tie as tie
 
@@ -17,21 +18,16 @@ abbrev μ-loop : tie.MeasureT-loop
 
 returns : tie.Need-returns Inv-loop μ-loop
 returns c =
-    let l = c .before .before .before in
-    range-low (l .before .args .clocks .now) (l .loop .row) (omega arith) (c .if1 .taken) ∙ l .loop .inv
-
-returns-2 : tie.Need-returns-2 Inv-loop μ-loop
-returns-2 c =
     let l = c .before .before .before .before in
-    range-high (l .before .args .clocks .now) (l .loop .row) (omega arith) (c .if2 .taken) ∙ l .loop .inv
+    range-not (l .before .before .args .clocks .now) (l .loop .row) (omega arith) (sym (c .before .clocks-in-range .ensures) ∙ not-true _ (c .if1 .taken)) ∙ l .loop .inv
 
 loop-again : tie.Need-loop-again Inv-loop μ-loop
 loop-again c =
     let l = c .before .before .before .before in
-    range-next (l .before .args .clocks .now) (l .loop .row) (omega arith) (c .before .if1 .left) (c .if2 .left) ∙ l .loop .inv
+    range-next (l .before .before .args .clocks .now) (l .loop .row) (omega arith) (sym (c .before .clocks-in-range .ensures) ∙ not-false _ (c .if1 .left)) ∙ l .loop .inv
 
-returns-3 : tie.Need-returns-3 Inv-loop μ-loop
-returns-3 c = let l = c .before in range-end (l .before .args .clocks .now) (l .loop .row) (omega arith) ∙ l .loop .inv
+returns-2 : tie.Need-returns-2 Inv-loop μ-loop
+returns-2 c = let l = c .before in range-end (l .before .before .args .clocks .now) (l .loop .row) (omega arith) ∙ l .loop .inv
 
 pub rows-in-range-spec : {M : Type 1} → statement M
 rows-in-range-spec =
@@ -42,9 +38,9 @@ rows-in-range-spec =
     (λ c. search needs)
     (λ c. search needs)
     (λ c. search needs)
+    (λ c κs. search needs)
     returns
-    returns-2
     (λ c. search needs)
     (λ c. search needs)
     loop-again
-    returns-3)
+    returns-2)

@@ -1,13 +1,11 @@
 -- The wait from here on is the wait that was asked for. Assumes nothing.
 use denote.Ref.{now}
-use Prim.Native.Nat.{ℕ, _+_, _-_, _≤_}
-use mathlib.Core.Path.{_≡_, refl, sym, ap, subst, _∙_}
-use mathlib.Core.List.{List}
+use Prim.Native.Nat.{ℕ, _+_, _-_}
+use mathlib.Core.Path.{_≡_, refl, sym, ap, _∙_}
 use native.Mathlib.Omega.{arith}
 use lib.ListN.{length, getD}
 use borrow.Author.Needs.{needs}
-use Rattle.log.specs.Left.{leftOf}
-use Rattle.log.specs.Wait.{waitFrom, waitOf, Waits}
+use Rattle.log.specs.Wait.{waitFrom, Waits}
 use Rattle.log.specs.declared.place.Place.{Place}
 use Rattle.log.specs.declared.wait.Waited.{Waited}
 use Rattle.log.proofs.WaitLaws.{wait-end, wait-in, wait-on, waits}

@@ -9,7 +9,7 @@ use Rattle.records.proofs.listing.is_bad_row.Tie as tie
 
 returns : tie.Need-returns
 unfolding isBadRow
-returns c = simp (eq-eqb (byteAt (c .before .before .before .before .before .args .rest .now) 0) 1 (sym (c .before .before .before .byte-at .ensures) ∙ c .before .before .if1 .taken), c .in-range .ensures, c .before .long-at .ensures)
+returns c = simp (eq-eqb (byteAt (c .before .before .before .before .before .args .rest .now) 0) 1 (sym (c .before .before .before .byte-at .ensures) ∙ c .before .before .if1 .taken), c .clocks-in-range .ensures, c .before .long-at .ensures)
 
 returns-2 : tie.Need-returns-2
 unfolding isBadRow

@@ -1,16 +1,14 @@
 -- The loop holds the progress of the run of as many steps, and its writes in the lent entries. Assumes nothing.
 use denote.Ref.{now}
 use Prim.Native.Nat.{ℕ, suc, _+_, _-_, _*_, _≤_}
-use mathlib.Core.Path.{_≡_, refl, sym, ap, subst, _∙_}
+use mathlib.Core.Path.{_≡_, refl, sym, ap, _∙_}
 use mathlib.Core.Bool.{true}
-use mathlib.Core.List.{List}
 use native.Mathlib.Numerals.{add-one}
 use native.Mathlib.Omega.{arith}
 use lib.ListN.{length}
 use lib.Seq.{sets}
 use borrow.Author.Needs.{needs}
 use borrow.Author.Tests.{not-true, not-false}
-use Rattle.families.specs.Family.{codeSize}
 use Rattle.isa.specs.declared.addresses.MmioAddress.{MmioAddress}
 use Rattle.fetch.proofs.Places.{size-small}
 use Rattle.state.specs.Slot.{isRunning}

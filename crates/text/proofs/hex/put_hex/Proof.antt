@@ -1,11 +1,11 @@
 -- The invariant: the digits still to come, then those from `first` on, are the word's. The measure is how many are to come.
-use mathlib.Core.Path.{_≡_, refl, ap, sym, _∙_}
-use mathlib.Core.List.{List, _++_, append-nil}
-use Prim.Native.Nat.{ℕ, _-_, _/_, _≤_, _<_}
+use mathlib.Core.Path.{_≡_, refl, ap, _∙_}
+use mathlib.Core.List.{_++_, append-nil}
+use Prim.Native.Nat.{ℕ, _-_, _/_, _≤_}
 use native.Mathlib.Omega.{arith}
 use borrow.Author.Needs.{needs}
 use lib.ListN.{length, drop, set, length-set}
-use Rattle.text.specs.Digits.{hexDigit, hexIn, hexWord}
+use Rattle.text.specs.Digits.{hexIn, hexWord}
 use Rattle.text.proofs.PutLaws.{puts-as}
 use Rattle.text.proofs.HexLaws.{turn, end, eight}
 use Rattle.text.proofs.hex.put_hex.Statement.{statement}
