@@ -1,11 +1,10 @@
 -- Little-endian numbers and their bytes, there and back. Assumes nothing.
 use Prim.Native.Nat.{ℕ, zero, suc, _+_, _*_, _/_, _%_, _^_, _<_, _≤_}
-use mathlib.Core.Path.{_≡_, refl, _∙_}
+use mathlib.Core.Path.{_≡_, refl}
 use mathlib.Core.List.{List, [], _∷_, _++_}
 use lib.Dec.{lit<}
-use lib.ListN.{length, getD, take, drop}
-use lib.Seq.{sets, sets-eq}
-use native.Mathlib.Nat.{zero-add, pow-suc, div-lt-iff-lt-mul}
+use lib.ListN.{length, getD, take}
+use native.Mathlib.Nat.{pow-suc, div-lt-iff-lt-mul}
 use native.Mathlib.Omega.{arith}
 use Rattle.isa.specs.Reader.{le, operand}
 use Rattle.isa.specs.Writer.{leBytes}
@@ -40,7 +39,3 @@ reread zero x after h = omega arith
 reread (suc n) x after h =
     let q : x / 256 < 256 ^ n = div-lt-iff-lt-mul (lit< tt) .1 (rw pow-suc at h) in
     rw (reread n (x / 256) after q) (omega arith)
-
--- stores from the start on lay their values over the front
-pub over : (vs l : List ℕ) → length vs ≤ length l → sets l 0 vs ≡ vs ++ drop (length vs) l
-over vs l h = sets-eq vs l 0 (omega arith) ∙ simp zero-add

@@ -9,7 +9,7 @@ use Rattle.families.specs.Family.{knownFamily}
 use Rattle.isa.specs.Wait.{waitFits}
 use Rattle.isa.specs.Writer.{opcodeOf, onFamily, operandsFit, spell, encodeOf, encodedNumber, writeRefusal}
 use Rattle.isa.specs.declared.instructions.Instruction.{Instruction}
-use Rattle.isa.specs.declared.writer.Encoded.{Encoded}
+use Rattle.isa.specs.declared.encoding.Encoded.{Encoded}
 use Rattle.refusals.specs.declared.refusals.Unwritable.{Unwritable}
 use Rattle.isa.proofs.Tests.{both-left, both-right, cond-elim}
 

@@ -8,7 +8,7 @@ use Rattle.isa.specs.Writer.{encodeOf, encodedNumber, writeRefusal, writ
 use Rattle.isa.specs.declared.addresses.MmioAddress.{MmioAddress}
 use Rattle.isa.specs.declared.instructions.Instruction.{Instruction}
 use Rattle.isa.specs.declared.reader.Decoded.{Decoded}
-use Rattle.isa.specs.declared.writer.Encoded.{Encoded}
+use Rattle.isa.specs.declared.encoding.Encoded.{Encoded}
 
 -- the words of an instruction fit their types
 abbrev pub InType : Instruction → Type 0

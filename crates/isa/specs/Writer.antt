@@ -8,10 +8,9 @@ use Rattle.refusals.specs.Number.{unwritableNumber}
 use Rattle.families.specs.Family.{knownFamily}
 use Rattle.isa.specs.Wait.{waitFits}
 use Rattle.isa.specs.declared.addresses.MmioAddress.{MmioAddress}
+use Rattle.isa.specs.declared.encoding.Encoded.{Encoded}
 use Rattle.isa.specs.declared.instructions.Instruction.{Instruction}
 use Rattle.isa.specs.declared.opcodes.Opcode.{Opcode}
-use Rattle.isa.specs.declared.writer.Encoded.{Encoded}
-use Rattle.isa.specs.declared.writer.Spelling.{Spelling}
 use Rattle.refusals.specs.declared.refusals.Unwritable.{Unwritable}
 
 abbrev pub opcodeOf : Instruction → Opcode
@@ -100,9 +99,3 @@ writeRefusal family instruction lent =
     (cond (not (operandsFit instruction)) 12
     (cond (ltb lent (length (spell instruction))) 13
     0)))
-
--- the bytes that the code's own enum of spellings holds
-abbrev pub spellingBytes : Spelling → List ℕ
-spellingBytes (Spelling.One a) = a ∷ []
-spellingBytes (Spelling.Three a b c) = a ∷ b ∷ c ∷ []
-spellingBytes (Spelling.Five a b c d e) = a ∷ b ∷ c ∷ d ∷ e ∷ []

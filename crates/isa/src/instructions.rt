@@ -18,7 +18,7 @@ pub enum Instruction {
 }
 
 // Whether a wait's one byte can hold these operands.
-pub fn wait_fits(length: u8, shift: u8) -> bool
+fn wait_fits(length: u8, shift: u8) -> bool
     ensures { λ r. ⌜ r ≡ waitFits length shift ⌝ }
 {
     length <= 3 && shift <= 15

@@ -1,4 +1,4 @@
-// The calls of families and isa.
+// The calls of families, isa and writer.
 use crate::ram;
 use crate::show;
 use crate::show::Said;
@@ -79,7 +79,7 @@ pub(crate) fn encode(head: Head) {
 }
 
 fn encode_into(family: u8, instruction: Instruction, lent: &mut [u8]) {
-    match isa::encode(family, instruction, lent) {
+    match writer::encode(family, instruction, lent) {
         Encoded::Length(length) => show::form(b" length %", 0, length as u64, 0, 0, 0),
         Encoded::Refused(why) => show::refused(refusals::unwritable_number(why)),
     }

@@ -1,7 +1,7 @@
 -- Assumes nothing.
 use borrow.Author.Needs.{needs}
-use Rattle.isa.proofs.writer.on_family.Statement.{statement}
-use Rattle.isa.proofs.writer.on_family.Tie as tie
+use Rattle.writer.proofs.writer.on_family.Statement.{statement}
+use Rattle.writer.proofs.writer.on_family.Tie as tie
 
 returns-2 : tie.Need-returns-2
 returns-2 c = simp (c .enum-told2 .given .1)

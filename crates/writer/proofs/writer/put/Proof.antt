@@ -1,15 +1,20 @@
 -- Assumes nothing.
-use Prim.Native.Nat.{ℕ}
-use mathlib.Core.Path.{ap}
-use mathlib.Core.List.{[], _∷_}
-use lib.ListN.{length, length-set}
+use Prim.Native.Nat.{ℕ, _≤_}
+use mathlib.Core.Path.{_≡_, ap, _∙_}
+use mathlib.Core.List.{List, [], _∷_, _++_}
+use lib.ListN.{length, length-set, drop}
+use lib.Seq.{sets, sets-eq}
+use native.Mathlib.Nat.{zero-add}
 use native.Mathlib.Omega.{arith}
-use Rattle.isa.specs.Writer.{spellingBytes}
-use Rattle.isa.specs.declared.writer.Spelling.{Spelling}
-use Rattle.isa.proofs.Bytes.{over}
+use Rattle.writer.specs.Spelling.{spellingBytes}
+use Rattle.writer.specs.declared.writer.Spelling.{Spelling}
 use borrow.Author.Needs.{needs}
-use Rattle.isa.proofs.writer.put.Statement.{statement}
-use Rattle.isa.proofs.writer.put.Tie as tie
+use Rattle.writer.proofs.writer.put.Statement.{statement}
+use Rattle.writer.proofs.writer.put.Tie as tie
+
+-- stores from the start on lay their values over the front
+over : (vs l : List ℕ) → length vs ≤ length l → sets l 0 vs ≡ vs ++ drop (length vs) l
+over vs l h = sets-eq vs l 0 (omega arith) ∙ simp zero-add
 
 abbrev width : Spelling → ℕ
 width s = length (spellingBytes s)

@@ -10,17 +10,17 @@ use native.Mathlib.Omega.{arith}
 use borrow.Author.Needs.{needs}
 use borrow.Author.Tests.{not-true, not-false}
 use Rattle.families.specs.Family.{knownFamily}
 use Rattle.isa.specs.Reader.{decodeOf}
 use Rattle.isa.specs.Writer.{opcodeOf, onFamily, operandsFit, spell, encodeOf, encodedNumber}
 use Rattle.isa.specs.Codec.{Writes}
 use Rattle.isa.specs.declared.instructions.Instruction.{Instruction}
 use Rattle.isa.specs.declared.reader.Decoded.{Decoded}
-use Rattle.isa.specs.declared.writer.Encoded.{Encoded}
+use Rattle.isa.specs.declared.encoding.Encoded.{Encoded}
 use Rattle.refusals.specs.declared.refusals.Unwritable.{Unwritable}
 use Rattle.isa.proofs.Codec.{Writable, reads-back}
 use Rattle.isa.proofs.Writing.{no-family, not-on, bad-operand, no-room, written, write-numbered}
-use Rattle.isa.proofs.writer.encode.Statement.{statement}
-use Rattle.isa.proofs.writer.encode.Tie as tie
+use Rattle.writer.proofs.writer.encode.Statement.{statement}
+use Rattle.writer.proofs.writer.encode.Tie as tie
 
 family : (c : tie.Else1) → knownFamily (c .before .before .before .args .family) ≡ true
 family c = sym (c .before .known-family .ensures) ∙ not-false _ (c .if1 .left)

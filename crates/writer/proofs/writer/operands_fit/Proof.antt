@@ -1,7 +1,7 @@
 -- Assumes nothing.
 use borrow.Author.Needs.{needs}
-use Rattle.isa.proofs.writer.operands_fit.Statement.{statement}
-use Rattle.isa.proofs.writer.operands_fit.Tie as tie
+use Rattle.writer.proofs.writer.operands_fit.Statement.{statement}
+use Rattle.writer.proofs.writer.operands_fit.Tie as tie
 
 returns : tie.Need-returns
 returns c = simp (c .before .before .instruction .given .1, c .wait-fits .ensures)

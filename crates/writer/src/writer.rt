@@ -4,19 +4,15 @@ ghost use Prim.Native.Nat.{_≤_};
 ghost use mathlib.Core.Bool.{true};
 ghost use mathlib.Core.List.{_∷_, _++_};
 ghost use lib.ListN.{length, drop};
-ghost use Rattle.isa.specs.Writer.{opcodeOf, onFamily, operandsFit, leBytes, spell, spellingBytes};
+ghost use Rattle.isa.specs.Wait.{waitFits};
+ghost use Rattle.isa.specs.Writer.{opcodeOf, onFamily, operandsFit, leBytes, spell};
 ghost use Rattle.isa.specs.Codec.{InType, Writes};
-use crate::instructions::Instruction;
-use crate::instructions::wait_fits;
-use crate::opcodes::Opcode;
+ghost use Rattle.writer.specs.Spelling.{spellingBytes};
 use families::known_family;
+use isa::Encoded;
+use isa::Instruction;
+use isa::Opcode;
 use refusals::Unwritable;
-
-pub enum Encoded {
-    // how many bytes were written
-    Length(usize),
-    Refused(Unwritable),
-}
 
 // The bytes of an instruction.
 pub enum Spelling {
@@ -102,6 +98,13 @@ fn operands_fit(instruction: Instruction) -> bool
         Instruction::Addr(_) => true,
         Instruction::Data(_) => true,
     }
+}
+
+// The same test as isa's own, which isa does not export.
+fn wait_fits(length: u8, shift: u8) -> bool
+    ensures { λ r. ⌜ r ≡ waitFits length shift ⌝ }
+{
+    length <= 3 && shift <= 15
 }
 
 fn spelled(instruction: Instruction) -> Spelling

@@ -1,10 +1,10 @@
 -- Assumes nothing.
 use mathlib.Core.Path.{refl}
 use native.Mathlib.Omega.{arith}
 use Rattle.isa.proofs.Writing.{wait, flag}
 use borrow.Author.Needs.{needs}
-use Rattle.isa.proofs.writer.spelled.Statement.{statement}
-use Rattle.isa.proofs.writer.spelled.Tie as tie
+use Rattle.writer.proofs.writer.spelled.Statement.{statement}
+use Rattle.writer.proofs.writer.spelled.Tie as tie
 
 mul-t14 : tie.Need-mul-t14
 mul-t14 c = omega (arith, wait _ _ _ (c .before .before .before .pre) (c .before .instruction .given .1))

@@ -1,0 +1,4 @@
+// The writer of the hardware sequencer's instructions.
+mod writer;
+
+pub use writer::encode;
