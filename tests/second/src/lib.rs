@@ -6,6 +6,10 @@ pub mod isa;
 pub mod job;
 pub mod log;
 pub mod machine;
+#[cfg(not(feature = "misreadings"))]
+mod misreadings;
+#[cfg(feature = "misreadings")]
+pub mod misreadings;
 pub mod probe;
 pub mod refusal;
 pub mod show;

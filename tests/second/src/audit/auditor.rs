@@ -3,7 +3,7 @@
 use super::input::check_script;
 use super::ranges::{check_ranges, listed};
 use crate::fetch::fetch;
-use crate::isa::{self, wait_clocks, CodeAddress, Instruction, MmioAddress};
+use crate::isa::{self, wait_clocks, with_low_half, CodeAddress, Instruction, MmioAddress};
 use crate::Refusal;
 
 /// A script without fault.
@@ -81,7 +81,7 @@ impl Seen {
             Instruction::Addr(address) => return self.poke(address, ranges),
             Instruction::AddrLo(low) => {
                 let before = self.addr.ok_or(Refusal::AddrNotSet)?;
-                let address = MmioAddress(before.0 & 0xffff_0000 | u32::from(low));
+                let address = MmioAddress(with_low_half(before.0, low));
                 return self.poke(address, ranges);
             }
             _ => {}

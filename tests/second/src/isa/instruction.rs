@@ -1,6 +1,7 @@
 //! Instructions with their operands.
 
 use super::MmioAddress;
+use crate::misreadings::{in_force, Misreading};
 
 /// One instruction; wait keeps both operands, so that every spelling survives a round trip.
 #[derive(Clone, Copy, Debug, PartialEq, Eq)]
@@ -42,4 +43,13 @@ impl Instruction {
 /// Clocks of a wait; of operands too large for an opcode only the bits it has room for count.
 pub fn wait_clocks(length: u8, shift: u8) -> u64 {
     (u64::from(length & 3) << (2 * u32::from(shift & 15))) * 32
+}
+
+/// What addrlo makes of ADDR and datalo of DATA.
+pub(crate) fn with_low_half(before: u32, low: u16) -> u32 {
+    // The papers: the high half is kept.
+    if in_force(Misreading::ZeroFilledHalves) {
+        return u32::from(low);
+    }
+    before & 0xffff_0000 | u32::from(low)
 }

@@ -1,6 +1,7 @@
 //! The instruction reader.
 
 use super::{has_pokes, Instruction, MmioAddress};
+use crate::misreadings::{in_force, Misreading};
 use crate::Refusal;
 
 /// The first instruction of `bytes` and its length.
@@ -19,6 +20,8 @@ pub fn decode(family: u8, bytes: &[u8]) -> Result<(Instruction, usize), Refusal>
         0xa0..=0xbf => Instruction::Set1(first & 31),
         0xc0..=0xdf => Instruction::Set0(first & 31),
         _ if pokes => return decode_long(first, operands),
+        // The papers: 5f on family 1 is an unknown opcode of one byte.
+        0x5f if in_force(Misreading::OperandsOf5fOnFamily1) => return decode_long(first, operands),
         _ => return Err(Refusal::UnknownOpcode),
     };
     Ok((instruction, 1))

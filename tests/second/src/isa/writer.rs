@@ -1,12 +1,17 @@
 //! The instruction writer.
 
 use super::{has_pokes, Instruction};
+use crate::misreadings::{in_force, Misreading};
 use crate::Refusal;
 
 /// Writes the instruction to the front of `out` and gives its length; a refusal leaves `out` alone.
 pub fn encode(family: u8, instruction: Instruction, out: &mut [u8]) -> Result<usize, Refusal> {
     if !has_pokes(family)? && instruction.needs_pokes() {
         return Err(Refusal::NotOnFamily);
+    }
+    // The papers: 12 comes before 13.
+    if in_force(Misreading::SwappedRefusalOrder) && out.len() < spell(instruction).1 {
+        return Err(Refusal::TooFewBytes);
     }
     if !instruction.operands_fit() {
         return Err(Refusal::OperandTooLarge);

@@ -4,6 +4,7 @@ use crate::audit::MOST_RANGES;
 use crate::isa::MmioAddress;
 use crate::log::{clocks_fit, MOST_ROWS};
 use crate::machine::{host_write, State};
+use crate::misreadings::{in_force, Misreading};
 use crate::Refusal;
 
 /// Most bytes a job has.
@@ -148,6 +149,10 @@ impl Job {
 
     /// The end record: nothing after it, and something to run.
     fn end(&self, last_byte: bool) -> Result<(), Refusal> {
+        // The papers: 24 comes before 32.
+        if in_force(Misreading::SwappedJobRefusals) && self.state.executing_slot()?.is_none() {
+            return Err(Refusal::NoSlotExecuting);
+        }
         if !last_byte {
             return Err(Refusal::AfterEnd);
         }

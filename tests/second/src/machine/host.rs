@@ -2,6 +2,7 @@
 
 use super::state::{Activity, Slot, SlotState, State};
 use crate::isa::{self, CodeAddress, MmioAddress};
+use crate::misreadings::{in_force, Misreading};
 use crate::Refusal;
 
 /// A register of a family; code words carry the place of their first byte.
@@ -79,7 +80,12 @@ fn trigger(state: &mut State, value: u32) {
     let slot_a = state.family == 4 || value >> 1 & 1 == 1;
     let slot = if slot_a { Slot::A } else { Slot::B };
     if value & 1 == 0 {
+        let executing = state.slot(slot).activity != Activity::Idle;
         state.slot_mut(slot).activity = Activity::Idle;
+        // The papers: an abort always stops the slot and clears the hang.
+        if in_force(Misreading::AbortHangs) && executing {
+            state.slot_mut(slot).activity = Activity::Hung;
+        }
         return;
     }
     let ip = entry(state, value >> 2 & 3);

@@ -2,8 +2,9 @@
 
 use super::state::{Activity, Slot, State};
 use crate::fetch::fetch;
-use crate::isa::{self, wait_clocks, CodeAddress, Instruction, MmioAddress};
+use crate::isa::{self, wait_clocks, with_low_half, CodeAddress, Instruction, MmioAddress};
 use crate::log::{Log, Passed, Place};
+use crate::misreadings::{in_force, Misreading};
 use crate::Refusal;
 
 /// Why a fetch stopped the slot.
@@ -71,7 +72,8 @@ pub fn step_untested(state: &mut State, slot: Slot, log: &Log, place: Place) -> 
     let ip = state.slot(slot).ip;
     match fetch(state.family, &state.code[..size], &state.marks[..size], ip) {
         Ok((instruction, length)) => {
-            if instruction != Instruction::Exit {
+            // The papers: IP stays on exit.
+            if instruction != Instruction::Exit || in_force(Misreading::IpPastExit) {
                 state.slot_mut(slot).ip = CodeAddress(ip.0 + length as u32);
             }
             execute(state, slot, instruction, log, &mut step);
@@ -123,12 +125,12 @@ fn execute(state: &mut State, slot: Slot, instruction: Instruction, log: &Log, s
         Instruction::Data(data) => state.slot_mut(slot).data = data,
         Instruction::DataLo(low) => {
             let data = &mut state.slot_mut(slot).data;
-            *data = *data & 0xffff_0000 | u32::from(low);
+            *data = with_low_half(*data, low);
         }
         Instruction::Addr(address) => step.did = poke(state, slot, address),
         Instruction::AddrLo(low) => {
-            let high = state.slot(slot).addr.0 & 0xffff_0000;
-            step.did = poke(state, slot, MmioAddress(high | u32::from(low)));
+            let before = state.slot(slot).addr.0;
+            step.did = poke(state, slot, MmioAddress(with_low_half(before, low)));
         }
     }
 }

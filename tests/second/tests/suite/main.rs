@@ -2,6 +2,7 @@
 
 mod audit;
 mod common;
+mod fields;
 mod host;
 mod isa;
 mod job;

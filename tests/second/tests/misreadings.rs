@@ -1,0 +1,226 @@
+//! Each misreading changes the answers that show it and no others, and only while it is in force.
+
+use second::audit::{audit, replay, Replayed, WRITE_ENTRIES};
+use second::isa::{code_size, decode, encode, CodeAddress, Instruction, MmioAddress};
+use second::job::report;
+use second::machine::{host_read, host_write, State};
+use second::misreadings::{misread, Misreading, ALL};
+use second::probe::{read, Calibration, Gate};
+use second::show;
+use std::thread;
+
+/// A small input with its answer by the papers and by the misreading it shows.
+struct Case {
+    shows: Misreading,
+    answer: fn() -> String,
+    right: &'static str,
+    wrong: &'static str,
+}
+
+const CASES: &[Case] = &[
+    Case {
+        shows: Misreading::UnrecordedEventIsZero,
+        answer: || wait_for_0(0),
+        right: "log",
+        wrong: "exit",
+    },
+    // The value bit of an event without a reading has no effect on the misreading either.
+    Case {
+        shows: Misreading::UnrecordedEventIsZero,
+        answer: || wait_for_0(2),
+        right: "log",
+        wrong: "exit",
+    },
+    Case {
+        shows: Misreading::IpPastExit,
+        answer: || replayed(1, b"\x7f", &[]).0.ip.0.to_string(),
+        right: "0",
+        wrong: "1",
+    },
+    Case {
+        shows: Misreading::ZeroFilledHalves,
+        answer: second_write,
+        right: "00102004 1234abcd",
+        wrong: "00002004 0000abcd",
+    },
+    Case {
+        shows: Misreading::ZeroFilledHalves,
+        answer: || verdict(2, SHORT_FORMS, &[0x10_0000, 0x10_ffff]),
+        right: "verdict 0 place 16",
+        wrong: "verdict 6 place 13",
+    },
+    Case {
+        shows: Misreading::OperandsOf5fOnFamily1,
+        answer: read_5f,
+        right: "refused 3",
+        wrong: "ewait 31 1",
+    },
+    Case {
+        shows: Misreading::OperandsOf5fOnFamily1,
+        answer: || {
+            replayed(1, b"\x5f\xa3\xa4\x7f", &[])
+                .0
+                .run
+                .steps
+                .to_string()
+        },
+        right: "4",
+        wrong: "1",
+    },
+    Case {
+        shows: Misreading::SwappedRefusalOrder,
+        answer: write_nowhere,
+        right: "refused 12",
+        wrong: "refused 13",
+    },
+    Case {
+        shows: Misreading::SwappedJobRefusals,
+        answer: || String::from_utf8(report(b"\x04\x01\x00\x00")).unwrap(),
+        right: "refused 24 at 2\n",
+        wrong: "refused 32 at 2\n",
+    },
+    Case {
+        shows: Misreading::UnfinishedWaitCountedWhole,
+        answer: || waited(&[(40, 0, 0)]),
+        right: "waited 40 left 0",
+        wrong: "waited 64 left 0",
+    },
+    Case {
+        shows: Misreading::HighLevelExcluded,
+        answer: just_high,
+        right: "Ok(Some(1))",
+        wrong: "Ok(None)",
+    },
+    Case {
+        shows: Misreading::PokeOutsideRangeAtLast,
+        answer: || verdict(2, ONE_POKE, &[0x10_1500, 0x10_1600]),
+        right: "verdict 0 place 10",
+        wrong: "verdict 6 place 5",
+    },
+    Case {
+        shows: Misreading::AbortHangs,
+        answer: status_after_abort,
+        right: "00000000",
+        wrong: "00000300",
+    },
+];
+
+/// data 12345678, addr 00101600, exit.
+const ONE_POKE: &[u8] = b"\xe2\x78\x56\x34\x12\xe0\x00\x16\x10\x00\x7f";
+/// The same with datalo abcd and addrlo 2004 before the exit.
+const SHORT_FORMS: &[u8] = b"\xe2\x78\x56\x34\x12\xe0\x00\x16\x10\x00\x42\xcd\xab\x40\x04\x20\x7f";
+
+/// The script with the rest of the code RAM 00.
+fn code_of(family: u8, script: &[u8]) -> Vec<u8> {
+    let mut code = vec![0; code_size(family).unwrap()];
+    code[..script.len()].copy_from_slice(script);
+    code
+}
+
+/// A replay from entry 0 with all uploaded, HWSQ_ENABLE 1 and other registers 0.
+fn replayed(family: u8, script: &[u8], rows: &[(u64, u32, u32)]) -> (Replayed, Vec<u32>) {
+    let code = code_of(family, script);
+    let clocks: Vec<u64> = rows.iter().map(|row| row.0).collect();
+    let known: Vec<u32> = rows.iter().map(|row| row.1).collect();
+    let values: Vec<u32> = rows.iter().map(|row| row.2).collect();
+    let mut writes = vec![0; WRITE_ENTRIES];
+    let replayed = replay(
+        family,
+        &code,
+        &vec![1; code.len()],
+        CodeAddress(0),
+        MmioAddress(0),
+        0,
+        0,
+        0,
+        true,
+        &clocks,
+        &known,
+        &values,
+        &mut writes,
+    );
+    (replayed.unwrap(), writes)
+}
+
+fn verdict(family: u8, script: &[u8], ranges: &[u32]) -> String {
+    let code = code_of(family, script);
+    let (number, place) = match audit(family, &code, &vec![1; code.len()], CodeAddress(0), ranges) {
+        Ok(pass) => (0, pass.place),
+        Err(fault) => (fault.number.number(), fault.place),
+    };
+    format!("verdict {number} place {}", place.0)
+}
+
+/// How a wait for event 1 to be 0 ends on one row without a reading.
+fn wait_for_0(values: u32) -> String {
+    let (replayed, _) = replayed(2, b"\x5f\x01\x00\x7f", &[(10, 0, values)]);
+    replayed.run.ending.word().to_string()
+}
+
+fn second_write() -> String {
+    let (_, writes) = replayed(2, SHORT_FORMS, &[]);
+    format!("{:08x} {:08x}", writes[2], writes[3])
+}
+
+fn read_5f() -> String {
+    let read = decode(1, b"\x5f\x1f\x01").map(|(read, _)| show::instruction(read));
+    show::answer(read)
+}
+
+fn write_nowhere() -> String {
+    let too_long = Instruction::Wait {
+        length: 4,
+        shift: 0,
+    };
+    show::answer(encode(1, too_long, &mut []).map(|length| length.to_string()))
+}
+
+/// The sums of two waits of 32 clocks.
+fn waited(rows: &[(u64, u32, u32)]) -> String {
+    let run = replayed(1, b"\x01\x01\x7f", rows).0.run;
+    format!("waited {} left {}", run.wait_clocks, run.left_clocks)
+}
+
+fn just_high() -> String {
+    let gate = Gate::Normal {
+        low: 1.0,
+        high: 2.0,
+    };
+    let plain = Calibration {
+        gain: 1.0,
+        offset: 0.0,
+    };
+    format!("{:?}", read(gate, plain, 2.0f32.to_bits()))
+}
+
+fn status_after_abort() -> String {
+    let mut state = State::fresh(2).unwrap();
+    for trigger in [3, 2] {
+        host_write(&mut state, MmioAddress(0x130c), trigger).unwrap();
+    }
+    let status = host_read(&state, MmioAddress(0x1308)).unwrap();
+    format!("{status:08x}")
+}
+
+/// One test for all, since they share what is in force.
+#[test]
+fn each_misreading_shows_in_its_own_answers_alone() {
+    for case in CASES {
+        assert_eq!((case.answer)(), case.right, "before {:?}", case.shows);
+        for &which in ALL {
+            let own = which == case.shows;
+            let expected = if own { case.wrong } else { case.right };
+            misread(Some(which));
+            assert_eq!((case.answer)(), expected, "{which:?}, {:?}", case.shows);
+            let elsewhere = thread::spawn(case.answer).join().unwrap();
+            assert_eq!(elsewhere, expected, "{which:?} in another thread");
+            misread(None);
+            assert_eq!((case.answer)(), case.right, "after {which:?}");
+        }
+    }
+    for (i, which) in ALL.iter().enumerate() {
+        assert!(CASES.iter().any(|case| case.shows == *which), "{which:?}");
+        let others = &ALL[i + 1..];
+        assert!(others.iter().all(|other| other.name() != which.name()));
+    }
+}

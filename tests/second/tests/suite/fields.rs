@@ -1,0 +1,97 @@
+//! What a comparison from outside takes apart: each field is named, so that a private one won't build.
+
+use crate::common::{Rows, Script};
+use second::audit::{Replayed, Run};
+use second::isa::{CodeAddress, MmioAddress, LARGEST_CODE};
+use second::job::{parse, Job};
+use second::log::Place;
+use second::machine::{step, Activity, Did, Slot, SlotState, State, Step};
+use second::probe::{read, Calibration, Gate};
+
+/// A state as anyone outside may put it together.
+fn stepped(code: [u8; LARGEST_CODE], activity: Activity) -> State {
+    let slot = SlotState {
+        ip: CodeAddress(1),
+        addr: MmioAddress(0),
+        data: 0,
+        activity,
+    };
+    let mut marks = [0; LARGEST_CODE];
+    marks[..64].fill(1);
+    State {
+        family: 1,
+        code,
+        marks,
+        slots: [slot, SlotState::default()],
+        flag_values: 0,
+        flag_enables: 0,
+        hwsq_enable: true,
+        override_mode: false,
+        entry_point: 0,
+        entry_point_high: 0,
+    }
+}
+
+#[test]
+fn whole_states_and_steps_compare() {
+    let mut state = Script::new(1, "01 7f").start(Slot::A);
+    let answer = step(&mut state, Slot::A, &[9], &[0], &[0], Place::default());
+    let expected = Step {
+        did: Did::Done,
+        place: Place { row: 1, used: 0 },
+        wait_clocks: 9,
+        ewait_clocks: 0,
+    };
+    assert_eq!(answer, Ok(expected));
+    assert_eq!(state, stepped(state.code, Activity::Waiting));
+    assert_ne!(state, stepped(state.code, Activity::Fetching));
+}
+
+#[test]
+fn whole_replays_and_jobs_compare() {
+    let (replayed, _) = Script::new(2, "7f").replay(&Rows::default());
+    let Replayed {
+        run,
+        ip: CodeAddress(ip),
+        addr: MmioAddress(addr),
+        data,
+        flags_0,
+        flags_1,
+    } = replayed;
+    assert_eq!((ip, addr, data, flags_0, flags_1), (0, 0, 0, 0, 0));
+    let Run {
+        ending,
+        place,
+        steps,
+        writes,
+        wait_clocks,
+        ewait_clocks,
+        left_clocks,
+    } = run;
+    assert_eq!((ending.word(), place), ("exit", Place { row: 0, used: 0 }));
+    assert_eq!((steps, writes), (1, 0));
+    assert_eq!((wait_clocks, ewait_clocks, left_clocks), (0, 0, 0));
+    let Job {
+        state,
+        ranges,
+        clocks,
+        known,
+        values,
+    } = parse(b"\x04\x02\x02\x0c\x13\0\0\x03\0\0\0\0").unwrap();
+    assert_eq!(state.slots[0].activity, Activity::Fetching);
+    assert!(ranges.is_empty() && clocks.is_empty() && known.is_empty() && values.is_empty());
+}
+
+#[test]
+fn volts_and_readings_compare_by_pattern() {
+    let calibration = Calibration {
+        gain: -1.0,
+        offset: 0.0,
+    };
+    assert_eq!(calibration.volts(f32::from_bits(1)).to_bits(), 0x8000_0001);
+    let gate = Gate::Inverted {
+        low: -0.0,
+        high: f32::from_bits(1),
+    };
+    assert_eq!(read(gate, calibration, 1), Ok(Some(1)));
+}
