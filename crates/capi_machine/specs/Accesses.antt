@@ -1,0 +1,38 @@
+-- A fresh state, and the host's writes and reads, as numbers.
+use Prim.Native.Nat.{ℕ}
+use mathlib.Core.Path.{_≡_}
+use Rattle.refusals.specs.Number.{inaccessibleNumber}
+use Rattle.isa.specs.declared.addresses.MmioAddress.{MmioAddress}
+use Rattle.host.specs.Access.{freshOf, writeOf, readOf}
+use Rattle.host.specs.Promises.{outcomeNumber, Begins, HostWrites, HostReads}
+use Rattle.host.specs.declared.access.Access.{Access}
+use Rattle.host.specs.declared.access.Outcome.{Outcome}
+use Rattle.host.specs.declared.access.Reading.{Reading}
+use Rattle.state.specs.declared.state.State.{State}
+use Rattle.capi_machine.specs.Images.{stateFrom, stateImage}
+use Rattle.capi_machine.specs.declared.accesses.AccessReply.{AccessReply}
+use Rattle.capi_machine.specs.declared.accesses.ReadReply.{ReadReply}
+use Rattle.capi_machine.specs.declared.images.StateImage.{StateImage}
+
+abbrev pub accessReply : Access → AccessReply
+accessReply access = record { refusal = outcomeNumber (access .outcome); state = stateImage (access .state) }
+
+abbrev pub readReply : Reading → ReadReply
+readReply (Reading.Word word) = record { refusal = 0; word = word }
+readReply (Reading.Refused why) = record { refusal = inaccessibleNumber why; word = 0 }
+
+-- each reply tells the host's answer, of which all holds that the host's call promises; its state stands for the host's
+-- when it is handed in again
+pub record HwsqFresh (family : ℕ) (reply : AccessReply) : Type 0 where
+  pub answered : reply ≡ accessReply (freshOf family)
+  pub begins : Begins family (freshOf family)
+  pub handed-on : stateFrom (reply .state) ≡ freshOf family .state
+
+pub record HwsqWrite (image : StateImage) (address word : ℕ) (reply : AccessReply) : Type 0 where
+  pub answered : reply ≡ accessReply (writeOf (stateFrom image) (record { 0 = address }) word)
+  pub writes : HostWrites (stateFrom image) (record { 0 = address }) word (writeOf (stateFrom image) (record { 0 = address }) word)
+  pub handed-on : stateFrom (reply .state) ≡ writeOf (stateFrom image) (record { 0 = address }) word .state
+
+pub record HwsqRead (image : StateImage) (address : ℕ) (reply : ReadReply) : Type 0 where
+  pub answered : reply ≡ readReply (readOf (stateFrom image) (record { 0 = address }))
+  pub reads : HostReads (stateFrom image) (record { 0 = address }) (readOf (stateFrom image) (record { 0 = address }))

@@ -1,0 +1,54 @@
+-- One step of a slot, as numbers.
+use Prim.Native.Nat.{ℕ}
+use mathlib.Core.Path.{_≡_}
+use mathlib.Core.Bool.{cond}
+use mathlib.Core.List.{List}
+use lib.Dec.{eqb}
+use Rattle.refusals.specs.Number.{unreadableNumber, unsteppableNumber}
+use Rattle.isa.specs.declared.addresses.MmioAddress.{MmioAddress}
+use Rattle.log.specs.declared.place.Place.{Place}
+use Rattle.state.specs.declared.slots.SlotName.{SlotName}
+use Rattle.state.specs.declared.state.State.{State}
+use Rattle.turn.specs.declared.turn.Effect.{Effect}
+use Rattle.machine.specs.Step.{stepOf}
+use Rattle.machine.specs.Promises.{Steps}
+use Rattle.machine.specs.declared.steps.Stepped.{Stepped}
+use Rattle.capi_machine.specs.Images.{stateFrom, stateImage}
+use Rattle.capi_machine.specs.declared.images.StateImage.{StateImage}
+use Rattle.capi_machine.specs.declared.stepping.EffectNumbers.{EffectNumbers}
+use Rattle.capi_machine.specs.declared.stepping.StepReply.{StepReply}
+
+-- 0 is slot A, every other number slot B
+abbrev pub slotNamed : ℕ → SlotName
+slotNamed slot = cond (eqb slot 0) SlotName.A SlotName.B
+
+-- 0 nothing, 1 stopped, 2 unknown opcode, 3 done, 4 wrote
+abbrev pub effectNumbers : Effect → EffectNumbers
+effectNumbers (Effect.Refused why) = record { refusal = unsteppableNumber why; kind = 0; why = 0; address = 0; word = 0 }
+effectNumbers Effect.Nothing = record { refusal = 0; kind = 0; why = 0; address = 0; word = 0 }
+effectNumbers (Effect.Stopped why) = record { refusal = 0; kind = 1; why = unreadableNumber why; address = 0; word = 0 }
+effectNumbers Effect.Unknown = record { refusal = 0; kind = 2; why = 0; address = 0; word = 0 }
+effectNumbers Effect.Done = record { refusal = 0; kind = 3; why = 0; address = 0; word = 0 }
+effectNumbers (Effect.Wrote address word) = record { refusal = 0; kind = 4; why = 0; address = address .0; word = word }
+
+unfoldable pub stepReply : Stepped → StepReply
+stepReply stepped = let told : EffectNumbers = effectNumbers (stepped .effect) in record {
+  refusal = told .refusal;
+  effect = told .kind;
+  why = told .why;
+  address = told .address;
+  word = told .word;
+  row = stepped .place .row;
+  used = stepped .place .used;
+  waited = stepped .waited;
+  searched = stepped .searched;
+  state = stateImage (stepped .state);
+}
+
+-- the reply tells the machine's answer, of which all holds that a step promises; its state stands for the machine's when it
+-- is handed in again
+module _ (image : StateImage) (slot : ℕ) (clocks known values : List ℕ) (row used : ℕ) where
+  pub record HwsqStep (reply : StepReply) : Type 0 where
+    pub answered : reply ≡ stepReply (stepOf (stateFrom image) (slotNamed slot) clocks known values (record { row = row; used = used }))
+    pub steps : Steps (stateFrom image) (slotNamed slot) clocks known values (record { row = row; used = used }) (stepOf (stateFrom image) (slotNamed slot) clocks known values (record { row = row; used = used }))
+    pub handed-on : stateFrom (reply .state) ≡ stepOf (stateFrom image) (slotNamed slot) clocks known values (record { row = row; used = used }) .state

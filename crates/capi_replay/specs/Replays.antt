@@ -1,0 +1,69 @@
+-- Replay's answer as numbers.
+use Prim.Native.Nat.{ℕ}
+use mathlib.Core.Path.{_≡_}
+use mathlib.Core.Bool.{Bool}
+use mathlib.Core.List.{List}
+use lib.ListN.{length}
+use Rattle.refusals.specs.Number.{unreplayableNumber}
+use Rattle.isa.specs.declared.addresses.CodeAddress.{CodeAddress}
+use Rattle.isa.specs.declared.addresses.MmioAddress.{MmioAddress}
+use Rattle.log.specs.declared.place.Place.{Place}
+use Rattle.replay.specs.Replay.{replayOf, Replays}
+use Rattle.replay.specs.declared.replays.Ending.{Ending}
+use Rattle.replay.specs.declared.replays.Replayed.{Replayed}
+use Rattle.replay.specs.declared.replays.ReplayAnswer.{ReplayAnswer}
+use Rattle.capi_replay.specs.declared.replays.ReplayReply.{ReplayReply}
+
+-- endings count from 1, so that zeros name none
+abbrev pub endingNumber : Ending → ℕ
+endingNumber Ending.Exit = 1
+endingNumber Ending.Log = 2
+endingNumber Ending.Poke = 3
+endingNumber Ending.Hang = 4
+endingNumber Ending.Stop = 5
+
+abbrev pub unreplayedReply : ℕ → ReplayReply
+unreplayedReply number = record {
+  refusal = number;
+  ending = 0;
+  addr = 0;
+  «data» = 0;
+  «flags_0» = 0;
+  «flags_1» = 0;
+  ip = 0;
+  row = 0;
+  used = 0;
+  steps = 0;
+  writes = 0;
+  waited = 0;
+  searched = 0;
+  left = 0;
+}
+
+abbrev pub endedReply : Replayed → ReplayReply
+endedReply told = record {
+  refusal = 0;
+  ending = endingNumber (told .ending);
+  addr = told .addr .0;
+  «data» = told .«data»;
+  «flags_0» = told .«flags_0»;
+  «flags_1» = told .«flags_1»;
+  ip = told .ip .0;
+  row = told .place .row;
+  used = told .place .used;
+  steps = told .steps;
+  writes = told .writes;
+  waited = told .waited;
+  searched = told .searched;
+  left = told .left;
+}
+
+abbrev pub replayReply : ReplayAnswer → ReplayReply
+replayReply (ReplayAnswer.Ended told) = endedReply told
+replayReply (ReplayAnswer.Refused why) = unreplayedReply (unreplayableNumber why)
+
+-- the reply tells replay's answer, of which and of the lent entries all holds that replay promises
+module _ (family : ℕ) (code marks : List ℕ) (entry addr word flags0 flags1 : ℕ) (enable : Bool) (clocks known values : List ℕ) where
+  pub record HwsqReplay (old new : List ℕ) (reply : ReplayReply) : Type 0 where
+    pub answered : reply ≡ replayReply (replayOf family code marks entry addr word flags0 flags1 enable clocks known values (length old))
+    pub replays : Replays family code marks entry addr word flags0 flags1 enable clocks known values old new (replayOf family code marks entry addr word flags0 flags1 enable clocks known values (length old))
