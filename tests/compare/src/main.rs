@@ -1,0 +1,64 @@
+//! Compares the proved library with the second program, in process and as programs.
+
+mod audits;
+mod codec;
+mod comparison;
+mod compose;
+mod gates;
+mod jobs;
+mod log;
+mod mirror;
+mod options;
+mod outcomes;
+mod part;
+mod parts;
+mod programs;
+mod ram;
+mod random;
+mod ranges;
+mod registers;
+mod replays;
+mod script;
+mod show;
+mod shrink;
+mod steps;
+#[cfg(feature = "misreadings")]
+mod trial;
+mod upload;
+
+use options::Amounts;
+use std::process::ExitCode;
+use std::{env, thread};
+
+#[cfg(not(feature = "misreadings"))]
+fn usual() -> Amounts {
+    options::FULL
+}
+
+#[cfg(not(feature = "misreadings"))]
+fn passes(amounts: &Amounts, threads: usize) -> bool {
+    comparison::run(amounts, threads, true)
+}
+
+#[cfg(feature = "misreadings")]
+fn usual() -> Amounts {
+    trial::FEW
+}
+
+#[cfg(feature = "misreadings")]
+fn passes(amounts: &Amounts, threads: usize) -> bool {
+    trial::run(amounts, threads)
+}
+
+fn main() -> ExitCode {
+    let Some(amounts) = options::parse(env::args().skip(1), usual()) else {
+        eprintln!("{}", options::USAGE);
+        return ExitCode::from(2);
+    };
+    let threads = thread::available_parallelism().map_or(1, usize::from);
+    if passes(&amounts, threads) {
+        ExitCode::SUCCESS
+    } else {
+        ExitCode::FAILURE
+    }
+}

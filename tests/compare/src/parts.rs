@@ -1,0 +1,44 @@
+//! All parts that compare in process, in the order in which they run.
+
+use crate::audits::Audits;
+use crate::codec::{Reading, Writing};
+use crate::gates::Gates;
+use crate::jobs::Jobs;
+use crate::options::Amounts;
+use crate::part::Part;
+use crate::replays::Replays;
+use crate::steps::Steps;
+
+/// What is done with each part, whose cases are of different types.
+pub trait Visitor {
+    fn visit<P: Part>(&mut self, part: &P);
+}
+
+pub fn each(amounts: &Amounts, visitor: &mut impl Visitor) {
+    let seed = amounts.seed;
+    visitor.visit(&Reading { seed });
+    visitor.visit(&Writing {
+        seed,
+        stride: amounts.writer_stride,
+    });
+    visitor.visit(&Steps {
+        seed,
+        scripts: amounts.scripts,
+    });
+    visitor.visit(&Jobs {
+        seed,
+        jobs: amounts.jobs,
+    });
+    visitor.visit(&Audits {
+        seed,
+        audits: amounts.audits,
+    });
+    visitor.visit(&Replays {
+        seed,
+        replays: amounts.replays,
+    });
+    visitor.visit(&Gates {
+        seed,
+        readings: amounts.readings,
+    });
+}

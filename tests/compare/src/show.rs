@@ -1,0 +1,34 @@
+//! How numbers, bytes and lists are printed.
+
+pub use second::show::bytes;
+
+/// A number with a comma after each thousand.
+pub fn grouped(number: u64) -> String {
+    let digits = number.to_string();
+    let mut text = String::new();
+    for (i, digit) in digits.chars().enumerate() {
+        if i > 0 && (digits.len() - i).is_multiple_of(3) {
+            text.push(',');
+        }
+        text.push(digit);
+    }
+    text
+}
+
+/// Words as hex with a space between; `-` for none.
+pub fn words(words: &[u32]) -> String {
+    list(words.iter().map(|word| format!("{word:08x}")))
+}
+
+/// Numbers with a space between; `-` for none.
+pub fn numbers(numbers: &[u64]) -> String {
+    list(numbers.iter().map(u64::to_string))
+}
+
+fn list(items: impl Iterator<Item = String>) -> String {
+    let items: Vec<String> = items.collect();
+    if items.is_empty() {
+        return "-".to_string();
+    }
+    items.join(" ")
+}
