@@ -2,8 +2,16 @@
 
 #[derive(Clone, Copy)]
 pub enum Verdict {
-    Pass { place: usize, count: usize, writes: usize, clocks: u64 },
-    Fault { number: u8, place: usize },
+    Pass {
+        place: usize,
+        count: usize,
+        writes: usize,
+        clocks: u64,
+    },
+    Fault {
+        number: u8,
+        place: usize,
+    },
 }
 
 /// Of DATA it matters only that it is set, so the two that set it carry no value.
@@ -51,7 +59,7 @@ fn input_fits(family: u8, code: &[u8], marks: &[u8], entry: usize, ranges: &[u32
         && marks.iter().all(|&mark| mark <= 1)
         && entry <= highest
         && ranges.len() <= 128
-        && ranges.len() % 2 == 0
+        && ranges.len().is_multiple_of(2)
         && ranges.chunks_exact(2).all(|range| range[0] <= range[1])
 }
 
@@ -101,7 +109,10 @@ fn poke(known: &mut Known, address: Option<u32>, ranges: &[u32]) -> Result<(), u
     if !known.data {
         return Err(5);
     }
-    if !ranges.chunks_exact(2).any(|range| range[0] <= address && address <= range[1]) {
+    if !ranges
+        .chunks_exact(2)
+        .any(|range| range[0] <= address && address <= range[1])
+    {
         return Err(6);
     }
     known.addr = Some(address);
@@ -129,9 +140,14 @@ fn assess(known: &mut Known, instruction: Instruction, ranges: &[u32]) -> Result
     Ok(())
 }
 
+// No more inlined into the timing loop than the others are.
+#[inline(never)]
 pub fn audit(family: u8, code: &[u8], marks: &[u8], entry: usize, ranges: &[u32]) -> Verdict {
     if !input_fits(family, code, marks, entry, ranges) {
-        return Verdict::Fault { number: 9, place: 0 };
+        return Verdict::Fault {
+            number: 9,
+            place: 0,
+        };
     }
     let mut place = entry;
     let mut known = Known::default();
@@ -144,8 +160,18 @@ pub fn audit(family: u8, code: &[u8], marks: &[u8], entry: usize, ranges: &[u32]
             if family >= 2 && known.paused {
                 return Verdict::Fault { number: 8, place };
             }
-            let Known { count, writes, clocks, .. } = known;
-            return Verdict::Pass { place, count: count + 1, writes, clocks };
+            let Known {
+                count,
+                writes,
+                clocks,
+                ..
+            } = known;
+            return Verdict::Pass {
+                place,
+                count: count + 1,
+                writes,
+                clocks,
+            };
         }
         if let Err(number) = assess(&mut known, instruction, ranges) {
             return Verdict::Fault { number, place };

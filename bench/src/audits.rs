@@ -1,0 +1,90 @@
+//! The auditors: the proved one, the second program's and the plain one.
+
+use crate::plain;
+use crate::scripts::{ranges, Script, FAMILY};
+use crate::table::Line;
+use crate::timing;
+use hwsq::Verdict;
+use second::audit::{Fault, Pass};
+use second::isa::CodeAddress;
+use std::hint::black_box;
+
+fn proved(script: &Script, ranges: &[u32]) -> Verdict {
+    hwsq::audit(script.lent(), ranges)
+}
+
+fn second(script: &Script, ranges: &[u32]) -> Result<Pass, Fault> {
+    let entry = CodeAddress(0);
+    second::audit::audit(FAMILY, &script.code, &script.marks, entry, ranges)
+}
+
+fn plain(script: &Script, ranges: &[u32]) -> plain::Verdict {
+    plain::audit(FAMILY, &script.code, &script.marks, 0, ranges)
+}
+
+fn fault(verdict: u8, place: usize) -> Verdict {
+    Verdict {
+        verdict,
+        place,
+        count: 0,
+        writes: 0,
+        clocks: 0,
+    }
+}
+
+fn of_second(answer: Result<Pass, Fault>) -> Verdict {
+    match answer {
+        Ok(pass) => Verdict {
+            verdict: 0,
+            place: pass.place.0 as usize,
+            count: pass.instructions as usize,
+            writes: pass.writes as usize,
+            clocks: pass.wait_clocks,
+        },
+        Err(found) => fault(found.number.number(), found.place.0 as usize),
+    }
+}
+
+fn of_plain(answer: plain::Verdict) -> Verdict {
+    match answer {
+        plain::Verdict::Pass {
+            place,
+            count,
+            writes,
+            clocks,
+        } => Verdict {
+            verdict: 0,
+            place,
+            count,
+            writes,
+            clocks,
+        },
+        plain::Verdict::Fault { number, place } => fault(number, place),
+    }
+}
+
+/// All three give the same verdict, which is given back.
+pub fn agreed(script: &Script, ranges: &[u32]) -> Verdict {
+    let verdict = proved(script, ranges);
+    assert_eq!(verdict, of_second(second(script, ranges)));
+    assert_eq!(verdict, of_plain(plain(script, ranges)));
+    verdict
+}
+
+pub fn line(script: &Script) -> Line {
+    let ranges = ranges();
+    assert_eq!(agreed(script, &ranges).place, script.end);
+    let [proved, second, plain] = timing::best([
+        &mut || timing::spend(proved(black_box(script), black_box(&ranges))),
+        &mut || timing::spend(second(black_box(script), black_box(&ranges))),
+        &mut || timing::spend(plain(black_box(script), black_box(&ranges))),
+    ]);
+    let line = Line {
+        name: script.name.clone(),
+        proved,
+        second,
+        plain: Some(plain),
+    };
+    line.print();
+    line
+}

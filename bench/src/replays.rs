@@ -1,0 +1,110 @@
+//! The replays: the proved one and the second program's.
+
+use crate::logs::{self, Log};
+use crate::scripts::{Script, FAMILY};
+use crate::table::Line;
+use crate::timing;
+use hwsq::{Replayed, Start, ENTRIES};
+use second::audit::Ending;
+use second::isa::{CodeAddress, MmioAddress};
+use second::Refusal;
+use std::hint::black_box;
+
+type Writes = [u32; ENTRIES];
+
+const START: Start = Start {
+    addr: 0,
+    data: 0,
+    flags_0: 0,
+    flags_1: 0,
+    enable: true,
+};
+
+fn proved(script: &Script, log: &Log, writes: &mut Writes) -> Replayed {
+    hwsq::replay(script.lent(), START, log.columns(), writes)
+}
+
+fn second(
+    script: &Script,
+    log: &Log,
+    writes: &mut Writes,
+) -> Result<second::audit::Replayed, Refusal> {
+    second::audit::replay(
+        FAMILY,
+        &script.code,
+        &script.marks,
+        CodeAddress(0),
+        MmioAddress(START.addr),
+        START.data,
+        START.flags_0,
+        START.flags_1,
+        START.enable,
+        &log.clocks,
+        &log.known,
+        &log.values,
+        writes,
+    )
+}
+
+fn number(ending: Ending) -> u8 {
+    match ending {
+        Ending::Exit => 1,
+        Ending::Log => 2,
+        Ending::Poke => 3,
+        Ending::Hang => 4,
+        Ending::Stop => 5,
+    }
+}
+
+fn of_second(answer: second::audit::Replayed) -> Replayed {
+    let run = answer.run;
+    Replayed {
+        refusal: 0,
+        ending: number(run.ending),
+        addr: answer.addr.0,
+        data: answer.data,
+        flags_0: answer.flags_0,
+        flags_1: answer.flags_1,
+        ip: answer.ip.0 as usize,
+        row: run.place.row,
+        used: run.place.used,
+        steps: run.steps as usize,
+        writes: run.writes as usize,
+        waited: run.wait_clocks,
+        searched: run.ewait_clocks,
+        left: run.left_clocks,
+    }
+}
+
+/// Both give the same answer and the same writes; the answer is given back.
+pub fn agreed(script: &Script, log: &Log) -> Replayed {
+    let (mut ours, mut theirs) = ([7; ENTRIES], [7; ENTRIES]);
+    let answer = proved(script, log, &mut ours);
+    match second(script, log, &mut theirs) {
+        Ok(replayed) => assert_eq!(answer, of_second(replayed)),
+        Err(refusal) => assert_eq!(answer.refusal, refusal.number()),
+    }
+    assert_eq!(ours, theirs);
+    answer
+}
+
+pub fn line(script: &Script) -> Line {
+    let log = logs::walked_by(script);
+    let answer = agreed(script, &log);
+    // A script that does not stop at once walks the log to its end or close to it.
+    assert!(answer.ip >= script.end);
+    assert!(script.end == 0 || answer.row * 10 >= log.clocks.len() * 9);
+    let (mut ours, mut theirs) = ([0; ENTRIES], [0; ENTRIES]);
+    let [proved, second] = timing::best([
+        &mut || timing::spend(proved(black_box(script), black_box(&log), &mut ours)),
+        &mut || timing::spend(second(black_box(script), black_box(&log), &mut theirs)),
+    ]);
+    let line = Line {
+        name: script.name.clone(),
+        proved,
+        second,
+        plain: None,
+    };
+    line.print();
+    line
+}
