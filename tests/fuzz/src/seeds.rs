@@ -1,0 +1,33 @@
+//! The worked jobs: hex text with comment lines.
+
+use std::fs;
+use std::path::Path;
+
+/// The bytes of every job in a folder, in the order of their names.
+pub fn read(folder: &Path) -> Vec<Vec<u8>> {
+    let entries = fs::read_dir(folder).expect("the folder of worked jobs cannot be read");
+    let mut files: Vec<_> = entries
+        .map(|entry| entry.expect("the folder cannot be listed").path())
+        .filter(|path| path.extension().is_some_and(|extension| extension == "hex"))
+        .collect();
+    files.sort();
+    assert!(!files.is_empty(), "no worked jobs in the folder");
+    files
+        .iter()
+        .map(|file| decode(&fs::read_to_string(file).expect("a worked job cannot be read")))
+        .collect()
+}
+
+fn decode(text: &str) -> Vec<u8> {
+    let digits: Vec<u8> = text
+        .lines()
+        .filter(|line| !line.starts_with('#'))
+        .flat_map(str::chars)
+        .filter_map(|letter| letter.to_digit(16))
+        .map(|digit| digit as u8)
+        .collect();
+    digits
+        .chunks_exact(2)
+        .map(|pair| pair[0] * 16 + pair[1])
+        .collect()
+}
