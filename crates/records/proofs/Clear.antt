@@ -6,13 +6,13 @@ use mathlib.Core.List.{List, [], _∷_}
 use native.Mathlib.Omega.{arith}
 use lib.Dec.{ltb}
 use lib.ListN.{length}
-use borrow.Author.Tests.{ltb-true, ltb-false, leb-false, eq-eqb, not-false}
+use borrow.Author.Tests.{ltb-true, ltb-false, leb-false, eq-eqb, ne-eqb, not-false}
 use Rattle.state.specs.Execution.{someSlotExecutes}
 use Rattle.isa.proofs.Tests.{both-left, both-right}
 use Rattle.state.specs.declared.state.State.{State}
 use Rattle.records.specs.Inside.{HasRoom}
 use Rattle.records.specs.Records.{kindOf}
-use Rattle.records.specs.Refusals.{isCutShort, isTooMany, isBadRow, endsIdle, Test, firstOf, listing, refusalOf}
+use Rattle.records.specs.Refusals.{isCutShort, isTooMany, writeNumber, isBadRow, endsIdle, Test, firstOf, listing, refusalOf}
 use Rattle.records.specs.Words.{byteAt}
 use Rattle.records.specs.declared.contents.Counts.{Counts}
 
@@ -57,3 +57,12 @@ clear rest counts s e =
 pub end-started : (rest : List ℕ) (s : State) → endsIdle rest s ≡ false → byteAt rest 0 ≡ 0 → someSlotExecutes s ≡ true
 unfolding endsIdle
 end-started rest s h z = not-false (someSlotExecutes s) (rw (eq-eqb (byteAt rest 0) 0 z) at h)
+
+-- a record that is no host write, and one that is no end, ask nothing of the state
+pub no-write : (rest : List ℕ) (s : State) → (byteAt rest 0 ≡ 2 → ⊥) → writeNumber rest s ≡ 0
+unfolding writeNumber
+no-write rest s h = rw (ne-eqb (byteAt rest 0) 2 h)
+
+pub no-end : (rest : List ℕ) (s : State) → (byteAt rest 0 ≡ 0 → ⊥) → endsIdle rest s ≡ false
+unfolding endsIdle
+no-end rest s h = rw (ne-eqb (byteAt rest 0) 0 h)

@@ -42,7 +42,11 @@ module _ (kind : ℕ) (counts : Counts) (room : HasRoom kind counts) where
     rows = more-fits 1 kind (counts .rows) 1024 (fit .rows) (room-at 1);
   }
 
-  row-room : kind ≡ 1 → counts .rows < 1024
+  pub range-room : kind ≡ 3 → counts .ranges < 64
+  unfolding countOf kindOf
+  range-room e = room-at 3 e
+
+  pub row-room : kind ≡ 1 → counts .rows < 1024
   unfolding countOf kindOf
   row-room e = room-at 1 e
 

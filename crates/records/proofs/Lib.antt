@@ -1,3 +1,4 @@
 pub mod Clear
 pub mod Growth
 pub mod Reading
+pub mod Storing

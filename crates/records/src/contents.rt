@@ -1,20 +1,19 @@
 // What the records read so far say.
 ghost use mathlib.Core.Path.{_≡_};
-ghost use Prim.Native.Nat.{_+_, _<_, _≤_};
-ghost use Rattle.host.specs.Access.{freshOf, writeOf};
+ghost use Prim.Native.Nat.{_+_, _*_, _<_, _≤_};
+ghost use lib.ListN.{set};
 ghost use Rattle.log.specs.Validity.{maxRows};
 ghost use Rattle.script.specs.Input.{maxRanges};
-ghost use Rattle.records.specs.Words.{byteAt};
-ghost use Rattle.records.specs.Job.{CountsFit, countOf, oneMore, emptyJob, withState, withRange, withRow, withContent, afterRecord};
+ghost use Rattle.records.specs.Words.{wordAt};
+ghost use Rattle.records.specs.Job.{CountsFit, countOf, oneMore, emptyJob};
 ghost use Rattle.records.specs.Job.{counted as Job·counted};
-ghost use Rattle.records.specs.Inside.{HasRoom};
+ghost use Rattle.records.specs.Inside.{stateAfter};
 use crate::kinds::FAMILY;
 use crate::kinds::HOST_WRITE;
 use crate::kinds::RANGE;
 use crate::kinds::ROW;
 use crate::kinds::kind_of;
 use crate::words::byte_at;
-use crate::words::long_at;
 use crate::words::word_at;
 use isa::MmioAddress;
 use state::State;
@@ -62,7 +61,7 @@ fn one_more(wanted: u8, kind: u8, n: usize) -> usize
 }
 
 // The counts with one record more of this kind.
-fn counted(kind: u8, counts: Counts) -> Counts
+pub(crate) fn counted(kind: u8, counts: Counts) -> Counts
     requires { ⌜ CountsFit counts ⌝ }
     ensures { λ r. ⌜ r ≡ Job·counted kind counts ⌝ }
 {
@@ -97,76 +96,32 @@ pub(crate) fn empty_job() -> Job
     }
 }
 
-fn with_state(job: Job, state: State) -> Job
-    ensures { λ r. ⌜ r ≡ withState job state ⌝ }
+// A range is the next two bounds.
+pub(crate) fn put_range(bounds: &mut [u32; 128], n: usize, rest: &[u8])
+    requires { ⌜ n < maxRanges ⌝ }
+    ensures { λ _. ⌜ now (bounds .exit) ≡ set (set (now (bounds .entry)) (2 * n) (wordAt (now (rest .entry)) 1)) (2 * n + 1) (wordAt (now (rest .entry)) 5) ⌝ }
 {
-    let mut next = job;
-    next.state = state;
-    next
+    bounds[2 * n] = word_at(rest, 1);
+    bounds[2 * n + 1] = word_at(rest, 5);
 }
 
-fn with_range(job: Job, first: u32, last: u32) -> Job
-    requires { ⌜ job .counts .ranges < maxRanges ⌝ }
-    ensures { λ r. ⌜ r ≡ withRange job first last ⌝ }
-{
-    let n = job.counts.ranges;
-    let mut next = job;
-    next.bounds[2 * n] = first;
-    next.bounds[2 * n + 1] = last;
-    next
-}
-
-fn with_row(job: Job, clocks: u64, known: u32, values: u32) -> Job
-    requires { ⌜ job .counts .rows < maxRows ⌝ }
-    ensures { λ r. ⌜ r ≡ withRow job clocks known values ⌝ }
-{
-    let n = job.counts.rows;
-    let mut next = job;
-    next.clocks[n] = clocks;
-    next.known[n] = known;
-    next.values[n] = values;
-    next
-}
-
-fn with_family(job: Job, family: u8) -> Job
-    ensures { λ r. ⌜ r ≡ withState job (freshOf family .state) ⌝ }
-{
-    let fresh = host::fresh_state(family);
-    let state = fresh.state;
-    with_state(job, state)
-}
-
-fn with_write(job: Job, address: u32, word: u32) -> Job
-    ensures { λ r. ⌜ r ≡ withState job (writeOf (job .state) (record { 0 = address }) word .state) ⌝ }
-{
-    let before = job.state;
-    let written = host::write_register(before, MmioAddress(address), word);
-    let state = written.state;
-    with_state(job, state)
-}
-
-// The job with what the record's body says.
-fn with_content(kind: u8, rest: &[u8], job: Job) -> Job
-    requires { ⌜ HasRoom kind (job .counts) ⌝ }
-    ensures { λ r. ⌜ r ≡ withContent kind (now (rest .entry)) job ⌝ }
+// The state after the record at the start of rest.
+pub(crate) fn state_after(kind: u8, rest: &[u8], state: State) -> State
+    ensures { λ r. ⌜ r ≡ stateAfter kind (now (rest .entry)) state ⌝ }
 {
     match kind {
-        FAMILY => with_family(job, byte_at(rest, 1)),
-        RANGE => with_range(job, word_at(rest, 1), word_at(rest, 5)),
-        HOST_WRITE => with_write(job, word_at(rest, 1), word_at(rest, 5)),
-        ROW => with_row(job, long_at(rest, 1), word_at(rest, 9), word_at(rest, 13)),
-        _ => job,
+        FAMILY => {
+            let fresh = host::fresh_state(byte_at(rest, 1));
+            fresh.state
+        }
+        HOST_WRITE => {
+            let written = host::write_register(
+                state,
+                MmioAddress(word_at(rest, 1)),
+                word_at(rest, 5),
+            );
+            written.state
+        }
+        _ => state,
     }
-}
-
-// The job after the record at the start of rest.
-pub(crate) fn after_record(rest: &[u8], job: Job) -> Job
-    requires { ⌜ CountsFit (job .counts) × HasRoom (byteAt (now rest) 0) (job .counts) ⌝ }
-    ensures { λ r. ⌜ r ≡ afterRecord (now (rest .entry)) job ⌝ }
-{
-    let kind = byte_at(rest, 0);
-    let counts = counted(kind, job.counts);
-    let mut next = with_content(kind, rest, job);
-    next.counts = counts;
-    next
 }

@@ -1,7 +1,8 @@
 // Why a record is refused.
 ghost use mathlib.Core.Path.{_≡_};
 ghost use Rattle.host.specs.Promises.{outcomeNumber};
-ghost use Rattle.records.specs.Refusals.{isUnknown, isCutShort, isTooMany, isBadFamily, isBadRange, writeNumber, isBadRow, hasBytesAfter, endsIdle, refusalOf};
+ghost use Rattle.records.specs.Refusals.{isUnknown, isCutShort, isTooMany, isBadFamily, isBadRange, writeNumber, isBadRow, hasBytesAfter, endsIdle};
+ghost use Rattle.records.specs.Inside.{Refuses};
 use crate::contents::Counts;
 use crate::contents::count_of;
 use crate::kinds::END;
@@ -60,7 +61,7 @@ fn outcome_number(outcome: Outcome) -> u8
 }
 
 // What the machine says of a host write, 0 where it takes it.
-fn write_number(rest: &[u8], state: State) -> u8
+pub(crate) fn write_number(rest: &[u8], state: State) -> u8
     ensures { λ r. ⌜ r ≡ writeNumber (now (rest .entry)) state ⌝ }
 {
     if byte_at(rest, 0) == HOST_WRITE {
@@ -85,15 +86,16 @@ fn has_bytes_after(rest: &[u8]) -> bool
 }
 
 // An end with no slot executing.
-fn ends_idle(rest: &[u8], state: State) -> bool
+pub(crate) fn ends_idle(rest: &[u8], state: State) -> bool
     ensures { λ r. ⌜ r ≡ endsIdle (now (rest .entry)) state ⌝ }
 {
     byte_at(rest, 0) == END && !state::some_slot_executes(state)
 }
 
-// The number of the first test that the record at the start of rest fails, 0 where it passes all.
-pub(crate) fn refusal_of(rest: &[u8], counts: Counts, state: State) -> u8
-    ensures { λ r. ⌜ r ≡ refusalOf (now (rest .entry)) counts state ⌝ }
+// The number of the first test that the record at the start of rest fails, 0 where it passes all. What the state says of it,
+// write_number and ends_idle, is handed over, since most records do not ask.
+pub(crate) fn refusal_of(rest: &[u8], counts: Counts, written: u8, idle: bool) -> u8
+    ensures { λ r. ⌜ Refuses (now (rest .entry)) counts written idle r ⌝ }
 {
     let kind = byte_at(rest, 0);
     if is_unknown(rest) {
@@ -114,7 +116,6 @@ pub(crate) fn refusal_of(rest: &[u8], counts: Counts, state: State) -> u8
     if is_bad_range(rest) {
         return 26;
     }
-    let written = write_number(rest, state);
     if written == 27 {
         return 27;
     }
@@ -127,5 +128,5 @@ pub(crate) fn refusal_of(rest: &[u8], counts: Counts, state: State) -> u8
     if has_bytes_after(rest) {
         return 24;
     }
-    if ends_idle(rest, state) { 32 } else { 0 }
+    if idle { 32 } else { 0 }
 }

@@ -4,22 +4,26 @@ use Prim.Native.Nat.{ℕ, suc, _+_, _-_, _≤_, _<_}
 use mathlib.Core.Path.{_≡_, refl, ap, sym, subst, _∙_}
 use mathlib.Core.Bool.{true}
 use mathlib.Core.List.{List}
+use mathlib.Core.Logic.{⊎-elim}
 use native.Mathlib.Omega.{arith}
-use lib.ListN.{length, drop, length-drop}
+use lib.ListN.{length, take, drop, length-drop}
 use Rattle.state.specs.Execution.{someSlotExecutes}
 use Rattle.log.specs.Validity.{rowsInRange}
 use Rattle.records.specs.Words.{byteAt}
 use Rattle.records.specs.Records.{kindOf}
-use Rattle.records.specs.Inside.{HasRoom}
-use Rattle.records.specs.Job.{CountsFit, emptyJob, afterRecord, clocksOf}
-use Rattle.records.specs.Refusals.{refusalOf}
+use Rattle.records.specs.Inside.{Refuses, stateAfter}
+use Rattle.records.specs.Job.{CountsFit, counted, emptyJob, withCounts, withContent, afterRecord, clocksOf}
+use Rattle.records.specs.Refusals.{writeNumber, endsIdle, refusalOf}
 use Rattle.records.specs.Reader.{readAt, readIn, Sound}
+use Rattle.records.specs.declared.contents.Counts.{Counts}
 use Rattle.records.specs.declared.contents.Job.{Job}
 use Rattle.records.specs.declared.kinds.Kind.{Kind}
 use Rattle.records.specs.declared.reader.JobRead.{JobRead}
-use Rattle.records.proofs.Clear.{Clear, clear, end-started}
-use Rattle.records.proofs.Growth.{Columns, columns-after, empty-columns, counts-fit, rows-fit, log-holds}
+use Rattle.records.proofs.Clear.{Clear, clear, end-started, no-write, no-end}
+use Rattle.records.proofs.Growth.{Columns, columns-after, empty-columns, counts-fit, range-room, row-room, rows-fit, log-holds}
 use Rattle.records.proofs.Reading.{from, head, read-next, read-fault, read-end}
+use Rattle.records.proofs.Storing.{row-stored, range-stored, state-stored}
+use borrow.Author.Tests.{ne-eqb}
 use borrow.Author.Needs.{needs}
 use Rattle.records.proofs.reader.read_records.Statement.{statement}
 use Rattle.records.proofs.reader.read_records.Tie as tie
@@ -41,29 +45,80 @@ rest c = drop (c .loop .at) (input c)
 abbrev verdict : (c : tie.At-loop Inv-loop μ-loop) → ℕ
 verdict c = refusalOf (rest c) (c .loop .job .counts) (c .loop .job .state)
 
-number-is : (c : tie.After-refusal-of Inv-loop μ-loop) → c .refusal-of .result ≡ verdict (c .before .before .before .before)
-number-is c =
+-- the same bytes, as they are lent
+abbrev lent : (c : tie.At-loop Inv-loop μ-loop) → List ℕ
+lent c = take (length (input c) - c .loop .at) (rest c)
+
+kind-is : (c : tie.After-byte-at Inv-loop μ-loop) → c .byte-at .result ≡ byteAt (rest (c .before .before)) 0
+kind-is c =
+    let l = c .before .before in
+    c .byte-at .ensures ∙ ap (λ (r : List ℕ). byteAt r 0) (from (input l) (l .loop .at))
+
+-- what the state says of a record of another kind needs no state
+written-is : (c : tie.Joined1 Inv-loop μ-loop) → c .if1 .written ≡ writeNumber (rest (c .before .before .before .before)) (c .before .before .before .before .loop .job .state)
+written-is c =
     let l = c .before .before .before .before in
-    c .refusal-of .ensures ∙ ap (λ (r : List ℕ). refusalOf r (l .loop .job .counts) (l .loop .job .state)) (from (input l) (l .loop .at))
+    ⊎-elim
+    (λ w. w .4 ∙ w .3 .ensures ∙ ap (λ (r : List ℕ). writeNumber r (l .loop .job .state)) (from (input l) (l .loop .at)))
+    (λ w. w .1 ∙ sym (no-write (rest l) (l .loop .job .state) (λ e. w .0 .left (kind-is (c .before .before) ∙ e))))
+    (c .if1 .came)
 
--- past the first test it is without fault
-faultless : (c : tie.Else1 Inv-loop μ-loop) → verdict (c .before .before .before .before .before) ≡ 0
-faultless c = sym (number-is (c .before)) ∙ c .if1 .left
-
-clear-of : (c : tie.Else1 Inv-loop μ-loop) → Clear (rest (c .before .before .before .before .before)) (c .before .before .before .before .before .loop .job .counts) (c .before .before .before .before .before .loop .job .state)
-clear-of c =
+idle-is : (c : tie.Joined2 Inv-loop μ-loop) → c .if2 .idle ≡ endsIdle (rest (c .before .before .before .before .before)) (c .before .before .before .before .before .loop .job .state)
+idle-is c =
     let l = c .before .before .before .before .before in
+    ⊎-elim
+    (λ w. w .4 ∙ w .3 .ensures ∙ ap (λ (r : List ℕ). endsIdle r (l .loop .job .state)) (from (input l) (l .loop .at)))
+    (λ w. w .1 ∙ ne-eqb (c .before .before .before .byte-at .result) 0 (w .0 .left) ∙ sym (no-end (rest l) (l .loop .job .state) (λ e. w .0 .left (kind-is (c .before .before .before) ∙ e))))
+    (c .if2 .came)
+
+number-is : (c : tie.After-refusal-of Inv-loop μ-loop) → c .refusal-of .result ≡ verdict (c .before .before .before .before .before .before .before)
+number-is c =
+    let l = c .before .before .before .before .before .before .before in
+    subst (λ (r : List ℕ). Refuses r (l .loop .job .counts) (c .before .before .before .if1 .written) (c .before .before .if2 .idle) (c .refusal-of .result)) (from (input l) (l .loop .at)) (c .refusal-of .ensures) (l .loop .job .state) (written-is (c .before .before .before)) (idle-is (c .before .before))
+
+-- past its test it is without fault
+faultless : (c : tie.Else3 Inv-loop μ-loop) → verdict (c .before .before .before .before .before .before .before .before) ≡ 0
+faultless c = sym (number-is (c .before)) ∙ c .if3 .left
+
+clear-of : (c : tie.Else3 Inv-loop μ-loop) → Clear (rest (c .before .before .before .before .before .before .before .before)) (c .before .before .before .before .before .before .before .before .loop .job .counts) (c .before .before .before .before .before .before .before .before .loop .job .state)
+clear-of c =
+    let l = c .before .before .before .before .before .before .before .before in
     clear (rest l) (l .loop .job .counts) (l .loop .job .state) (faultless c)
 
-within : (c : tie.Else1 Inv-loop μ-loop) → c .before .before .before .before .before .loop .at + (1 + kindOf (byteAt (rest (c .before .before .before .before .before)) 0) .body) ≤ length (input (c .before .before .before .before .before))
+within : (c : tie.Else3 Inv-loop μ-loop) → c .before .before .before .before .before .before .before .before .loop .at + (1 + kindOf (byteAt (rest (c .before .before .before .before .before .before .before .before)) 0) .body) ≤ length (input (c .before .before .before .before .before .before .before .before))
 within c =
-    let l = c .before .before .before .before .before in
+    let l = c .before .before .before .before .before .before .before .before in
     omega (arith, clear-of c .whole, length-drop (l .loop .at) (input l), l .loop .inv .0)
 
-body-is : (c : tie.After-kind-of Inv-loop μ-loop) → c .kind-of .result .body ≡ kindOf (byteAt (rest (c .before .before .before .before .before .before .before .before .before .before)) 0) .body
-body-is c =
-    let l = c .before .before .before .before .before .before .before .before .before .before in
-    ap (λ (k : Kind). k .body) (c .kind-of .ensures .0 ∙ ap kindOf (head (input l) (l .loop .at)))
+body-is : (c : tie.After-kind-of Inv-loop μ-loop) → c .kind-of .result .body ≡ kindOf (byteAt (rest (c .before .before .before .before .before .before .before .before .before .before .before)) 0) .body
+body-is c = ap (λ (k : Kind). k .body) (c .kind-of .ensures .0 ∙ ap kindOf (kind-is (c .before .before .before .before .before .before .before .before .before)))
+
+counted-is : (c : tie.After-counted Inv-loop μ-loop) → c .counted .result ≡ counted (byteAt (rest (c .before .before .before .before .before .before .before .before .before .before)) 0) (c .before .before .before .before .before .before .before .before .before .before .loop .job .counts)
+counted-is c = c .counted .ensures ∙ ap (λ (k : ℕ). counted k (c .before .before .before .before .before .before .before .before .before .before .loop .job .counts)) (kind-is (c .before .before .before .before .before .before .before .before))
+
+row-fits : (c : tie.At-match-keys1 Inv-loop μ-loop) → c .before .before .before .before .before .before .before .before .before .before .before .before .before .loop .job .counts .rows < 1024
+row-fits c =
+    let l = c .before .before .before .before .before .before .before .before .before .before .before .before .before in
+    row-room (byteAt (rest l) 0) (l .loop .job .counts) (clear-of (c .before .before .before .before .before) .room) (sym (kind-is (c .before .before .before .before .before .before .before .before .before .before .before)) ∙ c .match .keys1)
+
+range-fits : (c : tie.At-match-keys2 Inv-loop μ-loop) → c .before .before .before .before .before .before .before .before .before .before .before .before .before .loop .job .counts .ranges < 64
+range-fits c =
+    let l = c .before .before .before .before .before .before .before .before .before .before .before .before .before in
+    range-room (byteAt (rest l) 0) (l .loop .job .counts) (clear-of (c .before .before .before .before .before) .room) (sym (kind-is (c .before .before .before .before .before .before .before .before .before .before .before)) ∙ c .match .keys2)
+
+-- what is stored, whichever the kind
+content-is : (c : tie.At-match-came Inv-loop μ-loop) → c .match .job ≡ withContent (byteAt (rest (c .before .before .before .before .before .before .before .before .before .before .before .before .before)) 0) (rest (c .before .before .before .before .before .before .before .before .before .before .before .before .before)) (c .before .before .before .before .before .before .before .before .before .before .before .before .before .loop .job)
+content-is c =
+    let l = c .before .before .before .before .before .before .before .before .before .before .before .before .before in
+    let k = byteAt (rest l) 0 in
+    let same = from (input l) (l .loop .at) in
+    let is = sym (kind-is (c .before .before .before .before .before .before .before .before .before .before .before)) in
+    ⊎-elim
+    (λ w. w .7 ∙ row-stored k (rest l) (lent l) (l .loop .job) same (is ∙ w .0 .keys1) (w .2 .ensures) (w .4 .ensures) (w .6 .ensures))
+    (⊎-elim
+    (λ w. w .4 ∙ range-stored k (rest l) (lent l) (l .loop .job) same (is ∙ w .0 .keys2) (w .3 .ensures))
+    (λ w. w .4 ∙ state-stored k (rest l) (lent l) (l .loop .job) same (λ e. w .0 .rest .0 .1 (sym is ∙ e)) (λ e. w .0 .rest .1 (sym is ∙ e)) (w .3 .ensures ∙ ap (λ (x : ℕ). stateAfter x (lent l) (l .loop .job .state)) (sym is))))
+    (c .match .came)
 
 -- what has been read is sound, at every turn
 sound-at : (c : tie.At-loop Inv-loop μ-loop) {r : JobRead} {number at : ℕ} → r ≡ readAt number at (c .loop .job) → Sound (r .job)
@@ -83,64 +138,83 @@ loop-holds c =
       (suc (length s), omega arith, ap (readIn (suc (length s)) s 0) e),
     )
 
-shared-slice-read-kind : tie.Need-shared-slice-read-kind Inv-loop μ-loop
-shared-slice-read-kind c = omega (arith, within (c .before))
+returns : tie.Need-returns Inv-loop μ-loop
+returns c =
+    let l = c .before .before .before .before .before .before .before .before .before in
+    let e = c .read-at .ensures in
+    let n = number-is (c .before .before) in
+    record {
+      answered = e ∙ ap (λ (m : ℕ). readAt m (l .loop .at) (l .loop .job)) n ∙ read-fault (input l) (l .loop .at) (l .loop .job) (readIn (suc (length (input l))) (input l) 0 emptyJob) (l .loop .inv .4 .0) (l .loop .inv .0) (l .loop .inv .4 .1) (λ z. c .before .if3 .taken (n ∙ z)) (l .loop .inv .4 .2);
+      sound = sound-at l e;
+      started = λ z. absurd (c .before .if3 .taken (sym (ap (λ (r : JobRead). r .number) e) ∙ z));
+    }
 
-after-record-requires : tie.Need-after-record-requires Inv-loop μ-loop
-after-record-requires c κs =
-    let l = c .before .before .before .before .before .before .before .before in
-    (l .loop .inv .1, subst (λ (r : List ℕ). HasRoom (byteAt r 0) (l .loop .job .counts)) (sym (from (input l) (l .loop .at))) (clear-of (c .before .before .before) .room))
+returns-2 : tie.Need-returns-2 Inv-loop μ-loop
+returns-2 c =
+    let l = c .before .before .before .before .before .before .before .before .before .before in
+    let e = c .read-at2 .ensures in
+    let z = sym (kind-is (c .before .before .before .before .before .before .before .before)) ∙ c .before .if4 .taken in
+    record {
+      answered = e ∙ read-end (input l) (l .loop .at) (l .loop .job) (readIn (suc (length (input l))) (input l) 0 emptyJob) (l .loop .inv .4 .0) (l .loop .inv .0) (l .loop .inv .4 .1) (faultless (c .before .before)) z (l .loop .inv .4 .2);
+      sound = sound-at l e;
+      started = λ _. subst (λ (r : JobRead). someSlotExecutes (r .job .state) ≡ true) (sym e) (end-started (rest l) (l .loop .job .state) (clear-of (c .before .before) .end) z);
+    }
 
-add-at : tie.Need-add-at Inv-loop μ-loop
-add-at c = search needs
-
-add-at-2 : tie.Need-add-at-2 Inv-loop μ-loop
-add-at-2 c = omega (arith, within (c .before .before .before .before .before .before), body-is (c .before), c .before .before .before .before .before .before .before .before .before .before .before .before .before .before .pre)
+add-next-2 : tie.Need-add-next-2 Inv-loop μ-loop
+add-next-2 c = omega (arith, within (c .before .before .before .before), body-is (c .before), c .before .before .before .before .before .before .before .before .before .before .before .before .before .before .before .pre)
 
 loop-less : tie.Need-loop-less Inv-loop μ-loop
-loop-less c = omega (arith, within (c .before .before .before .before .before .before), body-is (c .before))
+loop-less c = omega (arith, within (c .before .before .before .before .before), body-is (c .before .before))
 
 loop-again : tie.Need-loop-again Inv-loop μ-loop
 unfolding afterRecord
 loop-again c =
-    let l = c .before .before .before .before .before .before .before .before .before .before .before in
+    let l = c .before .before .before .before .before .before .before .before .before .before .before .before .before in
     let s = input l in
     let at = l .loop .at in
     let j = l .loop .job in
-    let k = clear-of (c .before .before .before .before .before .before) in
-    let e : c .before .before .after-record .result ≡ afterRecord (rest l) j = c .before .before .after-record .ensures ∙ ap (λ (r : List ℕ). afterRecord r j) (from s at) in
-    let next = read-next s at j (readIn (suc (length s)) s 0 emptyJob) (l .loop .inv .4 .0) (l .loop .inv .0) (l .loop .inv .4 .1) (faultless (c .before .before .before .before .before .before)) (λ z. c .before .before .before .before .if2 .left (head s at ∙ z)) (l .loop .inv .4 .2) in (
-      omega (arith, within (c .before .before .before .before .before .before), body-is (c .before)),
+    let k = clear-of (c .before .before .before .before .before) in
+    let body = body-is (c .before .before) in
+    let j' = withCounts (c .match .job) (c .before .before .before .counted .result) in
+    let e : j' ≡ afterRecord (rest l) j = ap (λ (x : Job). withCounts x (c .before .before .before .counted .result)) (content-is c) ∙ ap (withCounts (withContent (byteAt (rest l) 0) (rest l) j)) (counted-is (c .before .before .before)) in
+    let next = read-next s at j (readIn (suc (length s)) s 0 emptyJob) (l .loop .inv .4 .0) (l .loop .inv .0) (l .loop .inv .4 .1) (faultless (c .before .before .before .before .before)) (λ z. c .before .before .before .before .if4 .left (kind-is (c .before .before .before .before .before .before .before .before .before .before .before) ∙ z)) (l .loop .inv .4 .2) in (
+      omega (arith, within (c .before .before .before .before .before), body),
       subst (λ (x : Job). CountsFit (x .counts)) (sym e) (counts-fit (byteAt (rest l) 0) (j .counts) (k .room) (l .loop .inv .1)),
       subst (λ (x : Job). rowsInRange (clocksOf x) ≡ true) (sym e) (rows-fit (rest l) j (l .loop .inv .3) (k .room) (k .row) (l .loop .inv .2)),
       subst Columns (sym e) (columns-after (rest l) j (l .loop .inv .3)),
       (
         next .0,
-        omega (arith, next .1, body-is (c .before)),
-        ap (λ (m : ℕ). readIn (next .0) s (at + (1 + m)) (c .before .before .after-record .result)) (body-is (c .before)) ∙ ap (readIn (next .0) s (at + (1 + kindOf (byteAt (rest l) 0) .body))) e ∙ next .2,
+        omega (arith, next .1, body),
+        ap (λ (m : ℕ). readIn (next .0) s m j') (let z : at + 1 + c .before .before .kind-of .result .body ≡ at + (1 + kindOf (byteAt (rest l) 0) .body) = omega (arith, body) in z) ∙ ap (readIn (next .0) s (at + (1 + kindOf (byteAt (rest l) 0) .body))) e ∙ next .2,
       ),
     )
 
-returns : tie.Need-returns Inv-loop μ-loop
-returns c =
-    let l = c .before .before .before .before .before .before in
-    let e = c .read-at .ensures in
-    let n = number-is (c .before .before) in
-    record {
-      answered = e ∙ ap (λ (m : ℕ). readAt m (l .loop .at) (l .loop .job)) n ∙ read-fault (input l) (l .loop .at) (l .loop .job) (readIn (suc (length (input l))) (input l) 0 emptyJob) (l .loop .inv .4 .0) (l .loop .inv .0) (l .loop .inv .4 .1) (λ z. c .before .if1 .taken (n ∙ z)) (l .loop .inv .4 .2);
-      sound = sound-at l e;
-      started = λ z. absurd (c .before .if1 .taken (sym (ap (λ (r : JobRead). r .number) e) ∙ z));
-    }
+counted-requires : tie.Need-counted-requires Inv-loop μ-loop
+counted-requires c κs = c .before .before .before .before .before .before .before .before .before .loop .inv .1
 
-returns-2 : tie.Need-returns-2 Inv-loop μ-loop
-returns-2 c =
-    let l = c .before .before .before .before .before .before .before .before in
-    let e = c .read-at2 .ensures in
-    record {
-      answered = e ∙ read-end (input l) (l .loop .at) (l .loop .job) (readIn (suc (length (input l))) (input l) 0 emptyJob) (l .loop .inv .4 .0) (l .loop .inv .0) (l .loop .inv .4 .1) (faultless (c .before .before .before)) (sym (head (input l) (l .loop .at)) ∙ c .before .if2 .taken) (l .loop .inv .4 .2);
-      sound = sound-at l e;
-      started = λ _. subst (λ (r : JobRead). someSlotExecutes (r .job .state) ≡ true) (sym e) (end-started (rest l) (l .loop .job .state) (clear-of (c .before .before .before) .end) (sym (head (input l) (l .loop .at)) ∙ c .before .if2 .taken));
-    }
+add-next : tie.Need-add-next Inv-loop μ-loop
+add-next c = omega (arith, c .before .before .before .before .before .before .before .before .before .before .loop .inv .0, c .before .before .before .before .before .before .before .before .before .before .before .before .before .pre)
+
+mul-job : tie.Need-mul-job Inv-loop μ-loop
+mul-job c = omega (arith, row-fits (c .before .before))
+
+element-write-job : tie.Need-element-write-job Inv-loop μ-loop
+element-write-job c = row-fits (c .before .before)
+
+mul-job-2 : tie.Need-mul-job-2 Inv-loop μ-loop
+mul-job-2 c = omega (arith, row-fits (c .before .before .before .before))
+
+element-write-job-2 : tie.Need-element-write-job-2 Inv-loop μ-loop
+element-write-job-2 c = row-fits (c .before .before .before .before)
+
+mul-job-3 : tie.Need-mul-job-3 Inv-loop μ-loop
+mul-job-3 c = omega (arith, row-fits (c .before .before .before .before .before .before))
+
+element-write-job-3 : tie.Need-element-write-job-3 Inv-loop μ-loop
+element-write-job-3 c = row-fits (c .before .before .before .before .before .before)
+
+put-range-requires : tie.Need-put-range-requires Inv-loop μ-loop
+put-range-requires c κs = range-fits (c .before .before)
 
 pub read-records-spec : {M : Type 1} → statement M
 read-records-spec =
@@ -154,17 +228,51 @@ read-records-spec =
     (λ c. search needs)
     (λ c. search needs)
     (λ c κs. search needs)
-    (λ c κs. search needs)
-    shared-slice-read-kind
+    (λ c. search needs)
+    (λ c. search needs)
+    (λ c. search needs)
     (λ c κs. search needs)
     (λ c. search needs)
     (λ c. search needs)
     (λ c. search needs)
-    after-record-requires
     (λ c κs. search needs)
-    add-at
-    add-at-2
-    loop-less
-    loop-again
+    (λ c. search needs)
+    (λ c. search needs)
+    (λ c. search needs)
+    (λ c κs. search needs)
+    (λ c κs. search needs)
     returns
-    returns-2)
+    (λ c κs. search needs)
+    returns-2
+    counted-requires
+    add-next
+    (λ c κs. search needs)
+    add-next-2
+    (λ c. search needs)
+    (λ c. search needs)
+    (λ c. search needs)
+    (λ c κs. search needs)
+    mul-job
+    element-write-job
+    (λ c. search needs)
+    (λ c. search needs)
+    (λ c. search needs)
+    (λ c κs. search needs)
+    mul-job-2
+    element-write-job-2
+    (λ c. search needs)
+    (λ c. search needs)
+    (λ c. search needs)
+    (λ c κs. search needs)
+    mul-job-3
+    element-write-job-3
+    (λ c. search needs)
+    (λ c. search needs)
+    (λ c. search needs)
+    put-range-requires
+    (λ c. search needs)
+    (λ c. search needs)
+    (λ c. search needs)
+    (λ c κs. search needs)
+    loop-less
+    loop-again)
