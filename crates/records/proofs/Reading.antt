@@ -1,11 +1,10 @@
 -- The reading of records, one after the other. Assumes nothing.
 use Prim.Native.Nat.{ℕ, zero, suc, _+_, _-_, _≤_, _<_}
-use mathlib.Core.Path.{_≡_, ap, sym, _∙_}
+use mathlib.Core.Path.{_≡_}
 use mathlib.Core.List.{List}
-use native.Mathlib.Nat.{add-zero}
 use native.Mathlib.Omega.{arith}
-use lib.ListN.{length, take, drop, getD, length-drop}
-use lib.Seq.{take-all, getD-drop}
+use lib.ListN.{length, take, drop, length-drop}
+use lib.Seq.{take-all}
 use borrow.Author.Tests.{eq-eqb, ne-eqb}
 use Rattle.records.specs.Job.{afterRecord}
 use Rattle.records.specs.Reader.{readAt, readIn}
@@ -18,9 +17,6 @@ use Rattle.records.specs.declared.reader.JobRead.{JobRead}
 -- the input from an offset on, as it is lent
 pub from : (s : List ℕ) (at : ℕ) → take (length s - at) (drop at s) ≡ drop at s
 from s at = take-all (length s - at) (drop at s) (omega (arith, length-drop at s))
-
-pub head : (s : List ℕ) (at : ℕ) → getD s at 0 ≡ byteAt (drop at s) 0
-head s at = ap (λ (n : ℕ). getD s n 0) (sym (add-zero at)) ∙ sym (getD-drop at s 0 0)
 
 module _ (bytes : List ℕ) (at : ℕ) (j : Job) (x : JobRead) where
   -- a record without fault that is no end: the same answer from the next one on

@@ -15,13 +15,12 @@ use Rattle.records.specs.Inside.{Refuses, stateAfter}
 use Rattle.records.specs.Job.{CountsFit, counted, emptyJob, withCounts, withContent, afterRecord, clocksOf}
 use Rattle.records.specs.Refusals.{writeNumber, endsIdle, refusalOf}
 use Rattle.records.specs.Reader.{readAt, readIn, Sound}
-use Rattle.records.specs.declared.contents.Counts.{Counts}
 use Rattle.records.specs.declared.contents.Job.{Job}
 use Rattle.records.specs.declared.kinds.Kind.{Kind}
 use Rattle.records.specs.declared.reader.JobRead.{JobRead}
 use Rattle.records.proofs.Clear.{Clear, clear, end-started, no-write, no-end}
 use Rattle.records.proofs.Growth.{Columns, columns-after, empty-columns, counts-fit, range-room, row-room, rows-fit, log-holds}
-use Rattle.records.proofs.Reading.{from, head, read-next, read-fault, read-end}
+use Rattle.records.proofs.Reading.{from, read-next, read-fault, read-end}
 use Rattle.records.proofs.Storing.{row-stored, range-stored, state-stored}
 use borrow.Author.Tests.{ne-eqb}
 use borrow.Author.Needs.{needs}
