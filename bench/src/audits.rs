@@ -4,6 +4,7 @@ use crate::plain;
 use crate::scripts::{ranges, Script, FAMILY};
 use crate::table::Line;
 use crate::timing;
+use compare::mirror;
 use hwsq::Verdict;
 use second::audit::{Fault, Pass};
 use second::isa::CodeAddress;
@@ -22,29 +23,6 @@ fn plain(script: &Script, ranges: &[u32]) -> plain::Verdict {
     plain::audit(FAMILY, &script.code, &script.marks, 0, ranges)
 }
 
-fn fault(verdict: u8, place: usize) -> Verdict {
-    Verdict {
-        verdict,
-        place,
-        count: 0,
-        writes: 0,
-        clocks: 0,
-    }
-}
-
-fn of_second(answer: Result<Pass, Fault>) -> Verdict {
-    match answer {
-        Ok(pass) => Verdict {
-            verdict: 0,
-            place: pass.place.0 as usize,
-            count: pass.instructions as usize,
-            writes: pass.writes as usize,
-            clocks: pass.wait_clocks,
-        },
-        Err(found) => fault(found.number.number(), found.place.0 as usize),
-    }
-}
-
 fn of_plain(answer: plain::Verdict) -> Verdict {
     match answer {
         plain::Verdict::Pass {
@@ -59,14 +37,20 @@ fn of_plain(answer: plain::Verdict) -> Verdict {
             writes,
             clocks,
         },
-        plain::Verdict::Fault { number, place } => fault(number, place),
+        plain::Verdict::Fault { number, place } => Verdict {
+            verdict: number,
+            place,
+            count: 0,
+            writes: 0,
+            clocks: 0,
+        },
     }
 }
 
 /// All three give the same verdict, which is given back.
 pub fn agreed(script: &Script, ranges: &[u32]) -> Verdict {
     let verdict = proved(script, ranges);
-    assert_eq!(verdict, of_second(second(script, ranges)));
+    assert_eq!(verdict, mirror::verdict(second(script, ranges)));
     assert_eq!(verdict, of_plain(plain(script, ranges)));
     verdict
 }

@@ -4,8 +4,8 @@ use crate::logs::{self, Log};
 use crate::scripts::{Script, FAMILY};
 use crate::table::Line;
 use crate::timing;
+use compare::mirror;
 use hwsq::{Replayed, Start, ENTRIES};
-use second::audit::Ending;
 use second::isa::{CodeAddress, MmioAddress};
 use second::Refusal;
 use std::hint::black_box;
@@ -46,44 +46,12 @@ fn second(
     )
 }
 
-fn number(ending: Ending) -> u8 {
-    match ending {
-        Ending::Exit => 1,
-        Ending::Log => 2,
-        Ending::Poke => 3,
-        Ending::Hang => 4,
-        Ending::Stop => 5,
-    }
-}
-
-fn of_second(answer: second::audit::Replayed) -> Replayed {
-    let run = answer.run;
-    Replayed {
-        refusal: 0,
-        ending: number(run.ending),
-        addr: answer.addr.0,
-        data: answer.data,
-        flags_0: answer.flags_0,
-        flags_1: answer.flags_1,
-        ip: answer.ip.0 as usize,
-        row: run.place.row,
-        used: run.place.used,
-        steps: run.steps as usize,
-        writes: run.writes as usize,
-        waited: run.wait_clocks,
-        searched: run.ewait_clocks,
-        left: run.left_clocks,
-    }
-}
-
 /// Both give the same answer and the same writes; the answer is given back.
 pub fn agreed(script: &Script, log: &Log) -> Replayed {
     let (mut ours, mut theirs) = ([7; ENTRIES], [7; ENTRIES]);
     let answer = proved(script, log, &mut ours);
-    match second(script, log, &mut theirs) {
-        Ok(replayed) => assert_eq!(answer, of_second(replayed)),
-        Err(refusal) => assert_eq!(answer.refusal, refusal.number()),
-    }
+    let second = mirror::replayed(second(script, log, &mut theirs));
+    assert_eq!(answer, second);
     assert_eq!(ours, theirs);
     answer
 }

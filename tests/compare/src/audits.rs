@@ -1,6 +1,5 @@
 //! The auditor, called with slices that fit and with ones that don't.
 
-use crate::mirror;
 use crate::outcomes::Group;
 use crate::part::{Part, Tally};
 use crate::ram::Ram;
@@ -8,6 +7,7 @@ use crate::random::Random;
 use crate::ranges;
 use crate::show;
 use crate::shrink::Shrinker;
+use compare::mirror;
 use hwsq::Verdict;
 use second::isa::CodeAddress;
 

@@ -7,7 +7,6 @@ mod compose;
 mod gates;
 mod jobs;
 mod log;
-mod mirror;
 mod options;
 mod outcomes;
 mod part;

@@ -69,7 +69,6 @@ const fn often(group: Group, name: &'static str, items: &'static [(u8, &'static 
     }
 }
 
-/// Families 2 to 4 have all of these; 9 can't come out of a job, whose parser refuses its causes.
 const VERDICTS: &[(u8, &str)] = &[
     (0, "0"),
     (1, "1"),
@@ -80,7 +79,10 @@ const VERDICTS: &[(u8, &str)] = &[
     (6, "6"),
     (7, "7"),
     (8, "8"),
+    (9, "9"),
 ];
+/// Families 2 to 4 have all of these; 9 can't come out of a job, whose parser refuses its causes.
+const JOB_VERDICTS: &[(u8, &str)] = VERDICTS.split_at(9).0;
 const JOB_REFUSALS: &[(u8, &str)] = &[
     (20, "20"),
     (21, "21"),
@@ -161,37 +163,22 @@ const EXPECTED: &[Expected] = &[
         ],
     ),
     often(Group::JobRefusal, "refused", JOB_REFUSALS),
-    often(Group::JobVerdict, "verdict", VERDICTS),
+    often(Group::JobVerdict, "verdict", JOB_VERDICTS),
     once(
         Group::Verdict1,
         "on family 1",
         &[(0, "0"), (1, "1"), (2, "2"), (3, "3")],
     ),
-    once(Group::Verdict2, "on family 2", VERDICTS),
-    once(Group::Verdict3, "on family 3", VERDICTS),
-    once(Group::Verdict4, "on family 4", VERDICTS),
+    once(Group::Verdict2, "on family 2", JOB_VERDICTS),
+    once(Group::Verdict3, "on family 3", JOB_VERDICTS),
+    once(Group::Verdict4, "on family 4", JOB_VERDICTS),
     often(
         Group::JobEnding,
         "end",
         &[(1, "exit"), (2, "log"), (3, "poke")],
     ),
     once(Group::JobSlot, "slot", &[(0, "A"), (1, "B")]),
-    once(
-        Group::Audit,
-        "verdict",
-        &[
-            (0, "0"),
-            (1, "1"),
-            (2, "2"),
-            (3, "3"),
-            (4, "4"),
-            (5, "5"),
-            (6, "6"),
-            (7, "7"),
-            (8, "8"),
-            (9, "9"),
-        ],
-    ),
+    once(Group::Audit, "verdict", VERDICTS),
     once(
         Group::Replay,
         "replay",

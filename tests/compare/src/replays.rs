@@ -1,7 +1,6 @@
 //! Replay, called with any registers, lent entries and log.
 
 use crate::log::{Log, Row};
-use crate::mirror;
 use crate::outcomes::Group;
 use crate::part::{Part, Tally};
 use crate::ram::Ram;
@@ -9,6 +8,7 @@ use crate::random::Random;
 use crate::ranges;
 use crate::show;
 use crate::shrink::Shrinker;
+use compare::mirror;
 use hwsq::{Replayed, Start, ENTRIES};
 use second::isa::{CodeAddress, MmioAddress};
 

@@ -1,12 +1,12 @@
 //! The reader: all first bytes on all families, cut to every length, and all operands of two bytes.
 
 use super::{unit_of, UNITS};
-use crate::mirror;
 use crate::outcomes::Group;
 use crate::part::{Part, Tally};
 use crate::random::Random;
 use crate::show;
 use crate::shrink::Shrinker;
+use compare::mirror;
 
 const SALT: u64 = 1;
 /// Lengths 0 to 6; the longest instruction has 5 bytes.

@@ -1,11 +1,11 @@
 //! The writer: all instructions on all families with every number of lent bytes, and what they read back as.
 
 use super::{unit_of, UNITS};
-use crate::mirror;
 use crate::outcomes::Group;
 use crate::part::{Part, Tally};
 use crate::random::Random;
 use crate::show;
+use compare::mirror;
 use hwsq::{Decoded, Encoded};
 use second::isa::{Instruction, MmioAddress};
 

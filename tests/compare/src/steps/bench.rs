@@ -2,11 +2,11 @@
 
 use super::session::{Action, Session};
 use crate::log::Columns;
-use crate::mirror;
 use crate::outcomes::Group;
 use crate::part::Tally;
 use crate::registers;
 use crate::show;
+use compare::mirror;
 use hwsq::{Access, State, Stepped};
 use second::isa::{CodeAddress, MmioAddress};
 use second::log::Place;
