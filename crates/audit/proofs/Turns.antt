@@ -15,11 +15,11 @@ use Rattle.fetch.specs.Fetch.{codeRam, fetchOf}
 use Rattle.fetch.proofs.Places.{size-small}
 use Rattle.actions.specs.Action.{actionOf}
 use Rattle.actions.specs.declared.actions.Action.{Action}
-use Rattle.audit.specs.Auditor.{faultOf, judgeOf, pokeCount, waitLength, knowNext, knowNothing, passAt, faultAt, verdictIn}
+use Rattle.verdict.specs.Auditor.{faultOf, judgeOf, pokeCount, waitLength, knowNext, knowNothing, passAt, faultAt, verdictIn}
 use Rattle.refusals.specs.declared.refusals.Fault.{Fault}
-use Rattle.audit.specs.declared.auditor.Judgement.{Judgement}
-use Rattle.audit.specs.declared.auditor.Knowledge.{Knowledge}
-use Rattle.audit.specs.declared.auditor.Verdict.{Verdict}
+use Rattle.verdict.specs.declared.verdicts.Judgement.{Judgement}
+use Rattle.verdict.specs.declared.verdicts.Knowledge.{Knowledge}
+use Rattle.verdict.specs.declared.verdicts.Verdict.{Verdict}
 
 pub wait-small : (i : Instruction) → waitLength (actionOf i) ≤ 103079215104
 wait-small (Instruction.Wait l s) = wait-most l s

@@ -1,4 +1,1 @@
-pub mod Auditor
-pub mod Start
-pub mod Demand3
 pub mod Promises

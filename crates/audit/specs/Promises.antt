@@ -2,9 +2,9 @@
 use Prim.Native.Nat.{ℕ}
 use mathlib.Core.Path.{_≡_}
 use mathlib.Core.List.{List}
-use Rattle.audit.specs.Auditor.{auditOf}
-use Rattle.audit.specs.Demand3.{Demand3}
-use Rattle.audit.specs.declared.auditor.Verdict.{Verdict}
+use Rattle.verdict.specs.Auditor.{auditOf}
+use Rattle.verdict.specs.Demand3.{Demand3}
+use Rattle.verdict.specs.declared.verdicts.Verdict.{Verdict}
 
 pub record Audits (family : ℕ) (code marks : List ℕ) (entry : ℕ) (ranges : List ℕ) (answer : Verdict) : Type 0 where
   pub answered : answer ≡ auditOf family code marks entry ranges

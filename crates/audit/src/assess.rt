@@ -4,16 +4,16 @@ ghost use mathlib.Core.Bool.{cond, _&&_};
 ghost use lib.Dec.{eqb};
 ghost use Rattle.families.specs.Family.{pausesMemory};
 ghost use Prim.Native.Nat.{_+_, _^_, _<_};
-ghost use Rattle.audit.specs.Auditor.{targetOf, judgePoke, canRelease, judgeOf, knownAddr, knownData, knownPaused, pokeCount, waitLength, loadsBoth, isSet1, knowNext, knowNothing};
-use crate::auditor::Judgement;
-use crate::auditor::Knowledge;
-use crate::auditor::KnownAddress;
+ghost use Rattle.verdict.specs.Auditor.{targetOf, judgePoke, canRelease, judgeOf, knownAddr, knownData, knownPaused, pokeCount, waitLength, loadsBoth, isSet1, knowNext, knowNothing};
 use actions::Action;
 use actions::Part;
 use flags::Change;
 use isa::MmioAddress;
 use refusals::Fault;
 use script::listed;
+use verdict::Judgement;
+use verdict::Knowledge;
+use verdict::KnownAddress;
 
 // The flag whose override pauses memory.
 const FB_PAUSE: u8 = 16;

@@ -3,56 +3,19 @@ ghost use mathlib.Core.Path.{_≡_};
 ghost use mathlib.Core.Bool.{true};
 ghost use Rattle.families.specs.Family.{codeSize};
 ghost use Rattle.script.specs.Input.{inputFits};
-ghost use Rattle.audit.specs.Auditor.{faultOf, knowNothing, verdictIn};
+ghost use Rattle.verdict.specs.Auditor.{faultOf, knowNothing, verdictIn};
 ghost use Rattle.audit.specs.Promises.{Audits};
 use crate::assess::judge;
 use crate::assess::know_next;
 use crate::assess::know_nothing;
 use isa::CodeAddress;
 use isa::Decoded;
-use isa::MmioAddress;
 use refusals::Fault;
 use refusals::Unreadable;
 use script::ranges_fit;
 use script::script_fits;
-
-pub enum Verdict {
-    Pass {
-        // where the script exits
-        place: CodeAddress,
-        // instructions, exit included
-        count: usize,
-        writes: usize,
-        // clocks of its waits
-        clocks: u64,
-    },
-    // the first fault, and the opcode's place
-    Fault(Fault, CodeAddress),
-}
-
-// What ADDR holds, where the script has set it.
-pub enum KnownAddress {
-    Unset,
-    At(MmioAddress),
-}
-
-// What is known at a place of the script.
-pub struct Knowledge {
-    pub addr: KnownAddress,
-    // whether both halves of DATA are set
-    pub data: bool,
-    // whether the last touch of flag 16 was set1
-    pub paused: bool,
-    pub count: usize,
-    pub writes: usize,
-    pub clocks: u64,
-}
-
-pub enum Judgement {
-    Fine,
-    Exit,
-    Bad(Fault),
-}
+use verdict::Judgement;
+use verdict::Verdict;
 
 // The verdict on a script; the ranges are firsts and lasts, one after the other.
 pub fn audit<'a>(

@@ -1,9 +1,5 @@
-// The auditor of scripts, and what its verdict means for whole runs.
+// The auditor of scripts.
 mod assess;
 mod auditor;
 
-pub use auditor::Judgement;
-pub use auditor::Knowledge;
-pub use auditor::KnownAddress;
-pub use auditor::Verdict;
 pub use auditor::audit;

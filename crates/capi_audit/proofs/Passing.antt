@@ -3,7 +3,7 @@ use Prim.Native.Nat.{ℕ}
 use mathlib.Core.Path.{_≡_, ap, subst, _∙_}
 use mathlib.Core.List.{List}
 use Rattle.audit.specs.Promises.{Audits}
-use Rattle.audit.specs.declared.auditor.Verdict.{Verdict}
+use Rattle.verdict.specs.declared.verdicts.Verdict.{Verdict}
 use Rattle.capi_audit.specs.Verdicts.{auditReply, HwsqAudit}
 use Rattle.capi_audit.specs.declared.verdicts.AuditReply.{AuditReply}
 

@@ -4,9 +4,9 @@ use mathlib.Core.Path.{_≡_}
 use mathlib.Core.List.{List}
 use Rattle.refusals.specs.Number.{faultNumber}
 use Rattle.isa.specs.declared.addresses.CodeAddress.{CodeAddress}
-use Rattle.audit.specs.Auditor.{auditOf}
+use Rattle.verdict.specs.Auditor.{auditOf}
 use Rattle.audit.specs.Promises.{Audits}
-use Rattle.audit.specs.declared.auditor.Verdict.{Verdict}
+use Rattle.verdict.specs.declared.verdicts.Verdict.{Verdict}
 use Rattle.capi_audit.specs.declared.verdicts.AuditReply.{AuditReply}
 
 abbrev pub auditReply : Verdict → AuditReply

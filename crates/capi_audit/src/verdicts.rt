@@ -1,7 +1,7 @@
 // The auditor, its verdict as numbers.
 ghost use mathlib.Core.Path.{_≡_};
 ghost use Rattle.capi_audit.specs.Verdicts.{auditReply, HwsqAudit};
-use audit::Verdict;
+use verdict::Verdict;
 
 #[repr(C)]
 pub struct AuditReply {

@@ -3,8 +3,8 @@ use Prim.Native.Nat.{ℕ}
 use mathlib.Core.Path.{_≡_, ap, subst, _∙_}
 use mathlib.Core.Bool.{Bool}
 use mathlib.Core.List.{List}
-use Rattle.replay.specs.Replay.{Replays}
-use Rattle.replay.specs.declared.replays.ReplayAnswer.{ReplayAnswer}
+use Rattle.run.specs.Replay.{Replays}
+use Rattle.run.specs.declared.answers.ReplayAnswer.{ReplayAnswer}
 use Rattle.capi_replay.specs.Replays.{replayReply, HwsqReplay}
 use Rattle.capi_replay.specs.declared.replays.ReplayReply.{ReplayReply}
 

@@ -8,10 +8,10 @@ use Rattle.refusals.specs.Number.{unreplayableNumber}
 use Rattle.isa.specs.declared.addresses.CodeAddress.{CodeAddress}
 use Rattle.isa.specs.declared.addresses.MmioAddress.{MmioAddress}
 use Rattle.log.specs.declared.place.Place.{Place}
-use Rattle.replay.specs.Replay.{replayOf, Replays}
-use Rattle.replay.specs.declared.replays.Ending.{Ending}
-use Rattle.replay.specs.declared.replays.Replayed.{Replayed}
-use Rattle.replay.specs.declared.replays.ReplayAnswer.{ReplayAnswer}
+use Rattle.run.specs.Replay.{replayOf, Replays}
+use Rattle.run.specs.declared.answers.Ending.{Ending}
+use Rattle.run.specs.declared.answers.Replayed.{Replayed}
+use Rattle.run.specs.declared.answers.ReplayAnswer.{ReplayAnswer}
 use Rattle.capi_replay.specs.declared.replays.ReplayReply.{ReplayReply}
 
 -- endings count from 1, so that zeros name none

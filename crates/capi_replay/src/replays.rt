@@ -2,9 +2,9 @@
 ghost use mathlib.Core.Path.{_≡_};
 ghost use Rattle.capi_replay.specs.Replays.{endingNumber, endedReply, unreplayedReply, replayReply, HwsqReplay};
 use isa::MmioAddress;
-use replay::Ending;
-use replay::ReplayAnswer;
-use replay::Replayed;
+use run::Ending;
+use run::ReplayAnswer;
+use run::Replayed;
 
 #[repr(C)]
 pub struct ReplayReply {

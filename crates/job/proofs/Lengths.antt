@@ -9,10 +9,10 @@ use Rattle.isa.proofs.Tests.{cond-elim}
 use Rattle.log.specs.Coverage.{onesIn, readingCount, lowestZero, firstMissing}
 use Rattle.log.specs.declared.place.Place.{Place}
 use Rattle.refusals.specs.Number.{faultNumber}
-use Rattle.replay.specs.Run.{Write}
+use Rattle.run.specs.Run.{Write}
 use Rattle.refusals.specs.declared.refusals.Fault.{Fault}
-use Rattle.audit.specs.declared.auditor.Verdict.{Verdict}
-use Rattle.replay.specs.declared.replays.Ending.{Ending}
+use Rattle.verdict.specs.declared.verdicts.Verdict.{Verdict}
+use Rattle.run.specs.declared.answers.Ending.{Ending}
 use Rattle.records.specs.Job.{CountsFit, knownOf}
 use Rattle.records.specs.declared.contents.Job.{Job}
 use Rattle.text.proofs.DecimalLaws.{within, short}

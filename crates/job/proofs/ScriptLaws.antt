@@ -11,16 +11,16 @@ use Rattle.families.specs.Family.{codeSize}
 use Rattle.isa.proofs.Tests.{both-left, by-family-elim}
 use Rattle.isa.specs.declared.addresses.CodeAddress.{CodeAddress}
 use Rattle.flags.specs.Flags.{flagsWord0, flagsWord1}
-use Rattle.audit.specs.Auditor.{auditOf, verdictIn, knowNothing}
+use Rattle.verdict.specs.Auditor.{auditOf, verdictIn, knowNothing}
 use Rattle.script.specs.Input.{scriptFits, rangesFit, inputFits}
-use Rattle.replay.specs.Replay.{entriesOf, writtenInto, replayOf, lentAfter}
-use Rattle.replay.specs.Run.{Write}
+use Rattle.run.specs.Replay.{entriesOf, writtenInto, replayOf, lentAfter}
+use Rattle.run.specs.Run.{Write}
 use Rattle.refusals.specs.declared.refusals.Fault.{Fault}
-use Rattle.audit.specs.declared.auditor.Verdict.{Verdict}
-use Rattle.replay.specs.declared.replays.ReplayAnswer.{ReplayAnswer}
-use Rattle.replay.specs.declared.replays.Replayed.{Replayed}
+use Rattle.verdict.specs.declared.verdicts.Verdict.{Verdict}
+use Rattle.run.specs.declared.answers.ReplayAnswer.{ReplayAnswer}
+use Rattle.run.specs.declared.answers.Replayed.{Replayed}
 use Rattle.refusals.specs.declared.refusals.Unreplayable.{Unreplayable}
-use Rattle.replay.proofs.Room.{replay-room}
+use Rattle.run.proofs.Room.{replay-room}
 use Rattle.records.specs.Job.{rangesOf, clocksOf, knownOf, valuesOf}
 use Rattle.records.specs.declared.contents.Job.{Job}
 use Rattle.job.specs.Script.{executing, codeOf, marksOf, entryOf, verdictOf, jobRun, toldRun}

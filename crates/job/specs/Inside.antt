@@ -6,8 +6,8 @@ use mathlib.Core.List.{List, [], _∷_, _++_}
 use Rattle.flags.specs.Flags.{flagsWord0, flagsWord1}
 use Rattle.log.specs.Validity.{validLog}
 use Rattle.script.specs.Input.{scriptFits}
-use Rattle.replay.specs.Replay.{Replays}
-use Rattle.replay.specs.declared.replays.ReplayAnswer.{ReplayAnswer}
+use Rattle.run.specs.Replay.{Replays}
+use Rattle.run.specs.declared.answers.ReplayAnswer.{ReplayAnswer}
 use Rattle.records.specs.Job.{CountsFit, clocksOf, knownOf, valuesOf}
 use Rattle.records.specs.declared.contents.Job.{Job}
 use Rattle.job.specs.Lines.{writeLine}

@@ -7,8 +7,8 @@ use lib.Dec.{eqb}
 use lib.ListN.{length, take, drop}
 use Rattle.refusals.specs.Number.{faultNumber}
 use Rattle.refusals.specs.declared.refusals.Fault.{Fault}
-use Rattle.audit.specs.declared.auditor.Verdict.{Verdict}
-use Rattle.replay.specs.declared.replays.Replayed.{Replayed}
+use Rattle.verdict.specs.declared.verdicts.Verdict.{Verdict}
+use Rattle.run.specs.declared.answers.Replayed.{Replayed}
 use Rattle.state.specs.declared.state.State.{State}
 use Rattle.records.specs.Job.{knownOf}
 use Rattle.records.specs.Reader.{readOf}

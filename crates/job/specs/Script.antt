@@ -13,12 +13,12 @@ use Rattle.state.specs.declared.state.State.{State}
 use Rattle.host.specs.Access.{readOf}
 use Rattle.state.specs.Execution.{executes}
 use Rattle.host.specs.declared.access.Reading.{Reading}
-use Rattle.audit.specs.Auditor.{auditOf}
-use Rattle.replay.specs.Replay.{toldOf, replayedRun}
-use Rattle.replay.specs.Run.{Run}
-use Rattle.audit.specs.declared.auditor.Verdict.{Verdict}
-use Rattle.replay.specs.declared.replays.Ending.{Ending}
-use Rattle.replay.specs.declared.replays.Replayed.{Replayed}
+use Rattle.verdict.specs.Auditor.{auditOf}
+use Rattle.run.specs.Replay.{toldOf, replayedRun}
+use Rattle.run.specs.Run.{Run}
+use Rattle.verdict.specs.declared.verdicts.Verdict.{Verdict}
+use Rattle.run.specs.declared.answers.Ending.{Ending}
+use Rattle.run.specs.declared.answers.Replayed.{Replayed}
 use Rattle.records.specs.Job.{rangesOf, clocksOf, knownOf, valuesOf}
 use Rattle.records.specs.declared.contents.Job.{Job}
 

@@ -22,11 +22,11 @@ use crate::runs::replay_job;
 use crate::runs::state_after;
 use crate::runs::status_of;
 use crate::runs::verdict_of;
-use audit::Verdict;
 use records::Job;
-use replay::ReplayAnswer;
-use replay::Replayed;
+use run::ReplayAnswer;
+use run::Replayed;
 use state::State;
+use verdict::Verdict;
 
 // Puts the report on a job at the start of out, whose other bytes stay as lent, and answers how long it is.
 pub fn report(job: &[u8], out: &mut [u8; 65536]) -> usize

@@ -1,8 +1,1 @@
-pub mod Runs
-pub mod RunClocks
-pub mod Settled
-pub mod Alike
-pub mod Room
-pub mod Filled
-pub mod ReplayEnds
 pub mod Replaying

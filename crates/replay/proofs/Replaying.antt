@@ -27,18 +27,18 @@ use Rattle.refusals.specs.declared.refusals.Unsteppable.{Unsteppable}
 use Rattle.turn.specs.declared.turn.Effect.{Effect}
 use Rattle.turn.specs.declared.turn.Turn.{Turn}
 use Rattle.script.specs.Input.{scriptFits}
-use Rattle.replay.specs.Run.{Run, Write, begun, wroteBy, fetchedBy, noted, nextStep, runFor}
-use Rattle.replay.specs.Replay.{replayState, entriesOf, writtenInto, fullSteps, replayedRun}
+use Rattle.run.specs.Run.{Run, Write, begun, wroteBy, fetchedBy, noted, nextStep, runFor}
+use Rattle.run.specs.Replay.{replayState, entriesOf, writtenInto, fullSteps, replayedRun}
 use Rattle.replay.specs.Progress.{progressOf, progressAfter}
 use Rattle.replay.specs.declared.replays.Progress.{Progress}
 use Rattle.state.proofs.SlotLaws.{has-a}
 use Rattle.machine.proofs.StepLaws.{step-turns, step-rests}
-use Rattle.replay.proofs.Room.{replay-room}
-use Rattle.replay.proofs.RunClocks.{run-clocks}
-use Rattle.replay.proofs.Runs.{next-promises, run-elim, run-snoc, run-family, run-place}
+use Rattle.run.proofs.Room.{replay-room}
+use Rattle.run.proofs.RunClocks.{run-clocks}
+use Rattle.run.proofs.Runs.{next-promises, run-elim, run-snoc, run-family, run-place}
 use Rattle.script.proofs.Scripts.{fits-script}
-use Rattle.replay.proofs.Settled.{settled-more}
-use Rattle.replay.proofs.Filled.{filled-fetches}
+use Rattle.run.proofs.Settled.{settled-more}
+use Rattle.run.proofs.Filled.{filled-fetches}
 
 -- ---- effects
 

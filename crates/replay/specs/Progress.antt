@@ -16,10 +16,10 @@ use Rattle.state.specs.declared.slots.SlotName.{SlotName}
 use Rattle.state.specs.declared.state.State.{State}
 use Rattle.turn.specs.declared.turn.Effect.{Effect}
 use Rattle.turn.specs.declared.turn.Turn.{Turn}
-use Rattle.replay.specs.Run.{Run, Write, wroteBy, fetchedBy}
-use Rattle.replay.specs.Replay.{endingOf, writtenInto, replayedRun}
+use Rattle.run.specs.Run.{Run, Write, wroteBy, fetchedBy}
+use Rattle.run.specs.Replay.{endingOf, writtenInto, replayedRun}
 use Rattle.replay.specs.declared.replays.Progress.{Progress}
-use Rattle.replay.specs.declared.replays.Replayed.{Replayed}
+use Rattle.run.specs.declared.answers.Replayed.{Replayed}
 
 -- slot A of a run, and its sums; two lent entries are used for each write
 abbrev pub progressOf : Run → Progress

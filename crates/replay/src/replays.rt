@@ -9,8 +9,8 @@ ghost use Rattle.log.specs.Validity.{validLog};
 ghost use Rattle.flags.specs.Flags.{flagsFromWords};
 ghost use Rattle.turn.specs.Turn.{turnOf};
 ghost use Rattle.script.specs.Input.{scriptFits};
-ghost use Rattle.replay.specs.Run.{wroteBy, fetchedBy};
-ghost use Rattle.replay.specs.Replay.{endingOf, entriesOf, Replays};
+ghost use Rattle.run.specs.Run.{wroteBy, fetchedBy};
+ghost use Rattle.run.specs.Replay.{endingOf, entriesOf, Replays};
 ghost use Rattle.replay.specs.Progress.{progressAfter, toldAt, RunsThrough};
 use flags::Flags;
 use isa::CodeAddress;
@@ -18,6 +18,9 @@ use isa::Decoded;
 use isa::MmioAddress;
 use log::Place;
 use refusals::Unreplayable;
+use run::Ending;
+use run::ReplayAnswer;
+use run::Replayed;
 use script::script_fits;
 use state::Mode;
 use state::Slot;
@@ -26,40 +29,6 @@ use turn::Turn;
 
 // Two entries a write, and a script of 512 bytes makes at most 170 writes.
 const MAX_ENTRIES: usize = 340;
-
-// How a run ended.
-pub enum Ending {
-    Exit,
-    // in a wait, the log used up
-    Log,
-    // at a poke with HWSQ_ENABLE 0
-    Poke,
-    Hang,
-    // at a byte past the code RAM or never uploaded
-    Stop,
-}
-
-pub struct Replayed {
-    pub ending: Ending,
-    pub ip: CodeAddress,
-    pub addr: MmioAddress,
-    pub data: u32,
-    pub flags_0: u32,
-    pub flags_1: u32,
-    pub place: Place,
-    // instructions fetched
-    pub steps: usize,
-    pub writes: usize,
-    // clocks spent in waits, passed by in ewaits, and left
-    pub waited: u64,
-    pub searched: u64,
-    pub left: u64,
-}
-
-pub enum ReplayAnswer {
-    Ended(Replayed),
-    Refused(Unreplayable),
-}
 
 // Where a run stands.
 pub struct Progress {

@@ -7,11 +7,11 @@ use crate::show;
 use crate::words;
 use crate::words::Head;
 use crate::words::Words;
-use audit::Verdict;
 use isa::MmioAddress;
-use replay::Ending;
-use replay::ReplayAnswer;
-use replay::Replayed;
+use run::Ending;
+use run::ReplayAnswer;
+use run::Replayed;
+use verdict::Verdict;
 
 // What a replay starts from, besides code and log.
 struct Start {

@@ -1,5 +1,5 @@
 -- Assumes nothing.
-use Rattle.audit.specs.Auditor.{canRelease}
+use Rattle.verdict.specs.Auditor.{canRelease}
 use borrow.Author.Tests.{lt-ltb, le-ltb}
 use Rattle.audit.proofs.assess.can_release.Statement.{statement}
 use Rattle.audit.proofs.assess.can_release.Tie as tie

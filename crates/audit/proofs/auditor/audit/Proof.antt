@@ -5,12 +5,11 @@ use mathlib.Core.Path.{_≡_, sym, subst, _∙_}
 use mathlib.Core.Bool.{Bool, true, _&&_}
 use borrow.Author.Needs.{needs}
 use borrow.Author.Tests.{not-true, not-false}
-use Rattle.audit.specs.Auditor.{auditOf}
-use Rattle.audit.specs.Demand3.{Demand3}
+use Rattle.verdict.specs.Auditor.{auditOf}
+use Rattle.verdict.specs.Demand3.{Demand3}
 use Rattle.audit.specs.Promises.{Audits}
-use Rattle.audit.specs.declared.auditor.Verdict.{Verdict}
-use Rattle.audit.proofs.Claim.{demand3}
-use Rattle.audit.proofs.ReplayLaws.{replay-clause}
+use Rattle.verdict.specs.declared.verdicts.Verdict.{Verdict}
+use Rattle.verdict.proofs.Claim.{demand3}
 use Rattle.audit.proofs.auditor.audit.Statement.{statement}
 use Rattle.audit.proofs.auditor.audit.Tie as tie
 
@@ -22,8 +21,7 @@ audits c e =
     record {
       answered = e;
       demand3 = subst (Demand3 (a .family) (now (a .code)) (now (a .marks)) (a .entry) (now (a .ranges))) (sym e)
-          (demand3 (a .family) (now (a .code)) (now (a .marks)) (a .entry) (now (a .ranges)) (λ (i : ℕ). c .shared-slice-known .given i .fits)
-          (replay-clause (a .family) (now (a .code)) (now (a .marks)) (a .entry) (now (a .ranges))));
+          (demand3 (a .family) (now (a .code)) (now (a .marks)) (a .entry) (now (a .ranges)) (λ (i : ℕ). c .shared-slice-known .given i .fits));
     }
 
 returns : tie.Need-returns

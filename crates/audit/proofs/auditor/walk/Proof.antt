@@ -14,10 +14,10 @@ use Rattle.fetch.specs.Fetch.{fetchOf, reasonOf}
 use Rattle.fetch.proofs.Places.{size-small}
 use Rattle.actions.specs.Action.{actionOf}
 use Rattle.actions.specs.declared.actions.Action.{Action}
-use Rattle.audit.specs.Auditor.{faultOf, faultAt, judgeOf, knowNext}
+use Rattle.verdict.specs.Auditor.{faultOf, faultAt, judgeOf, knowNext}
 use Rattle.refusals.specs.declared.refusals.Fault.{Fault}
-use Rattle.audit.specs.declared.auditor.Judgement.{Judgement}
-use Rattle.audit.specs.declared.auditor.Knowledge.{Knowledge}
+use Rattle.verdict.specs.declared.verdicts.Judgement.{Judgement}
+use Rattle.verdict.specs.declared.verdicts.Knowledge.{Knowledge}
 use Rattle.script.proofs.Scripts.{fits-script}
 use Rattle.audit.proofs.Turns.{Going, going-first, going-none, going-exit, going-bad, going-on, going-fits}
 use Rattle.audit.proofs.auditor.walk.Statement.{statement}

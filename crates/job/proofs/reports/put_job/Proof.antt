@@ -4,7 +4,7 @@ use mathlib.Core.Path.{_≡_, ap, sym, _∙_}
 use mathlib.Core.List.{_++_}
 use Rattle.refusals.specs.Number.{faultNumber}
 use Rattle.refusals.specs.declared.refusals.Fault.{Fault}
-use Rattle.audit.specs.declared.auditor.Verdict.{Verdict}
+use Rattle.verdict.specs.declared.verdicts.Verdict.{Verdict}
 use Prim.Native.Nat.{ℕ}
 use Rattle.job.specs.Lines.{familyLine, faultLine, passLine}
 use Rattle.job.specs.Script.{verdictOf}

@@ -5,7 +5,7 @@ use mathlib.Core.Path.{_≡_, ap, sym, _∙_}
 use mathlib.Core.List.{_++_}
 use native.Mathlib.Omega.{arith}
 use lib.ListN.{length, take, replicate, length-replicate}
-use Rattle.replay.specs.declared.replays.Replayed.{Replayed}
+use Rattle.run.specs.declared.answers.Replayed.{Replayed}
 use Rattle.records.specs.Job.{knownOf}
 use Rattle.job.specs.Lines.{writeLines, rowLines}
 use Rattle.job.specs.Inside.{pairLines}

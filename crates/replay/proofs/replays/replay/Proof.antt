@@ -13,11 +13,11 @@ use Rattle.log.specs.Validity.{validLog}
 use Rattle.log.proofs.LeftLaws.{left-fits}
 use Rattle.state.specs.declared.slots.SlotName.{SlotName}
 use Rattle.replay.specs.Progress.{progressOf, toldAt}
-use Rattle.replay.specs.Replay.{toldOf, replayOf, replayedRun, lentAfter, EndsRight, Replays}
-use Rattle.replay.specs.Run.{Run}
+use Rattle.run.specs.Replay.{toldOf, replayOf, replayedRun, lentAfter, EndsRight, Replays}
+use Rattle.run.specs.Run.{Run}
 use Rattle.replay.specs.declared.replays.Progress.{Progress}
-use Rattle.replay.specs.declared.replays.ReplayAnswer.{ReplayAnswer}
-use Rattle.replay.proofs.ReplayEnds.{replay-ends-right}
+use Rattle.run.specs.declared.answers.ReplayAnswer.{ReplayAnswer}
+use Rattle.run.proofs.ReplayEnds.{replay-ends-right}
 use Rattle.replay.proofs.replays.replay.Statement.{statement}
 use Rattle.replay.proofs.replays.replay.Tie as tie
 

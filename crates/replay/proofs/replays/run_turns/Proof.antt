@@ -14,8 +14,8 @@ use Rattle.fetch.proofs.Places.{size-small}
 use Rattle.state.specs.Slot.{isRunning}
 use Rattle.state.specs.declared.slots.Mode.{Mode}
 use Rattle.state.specs.declared.slots.Slot.{Slot}
-use Rattle.replay.specs.Run.{Run, wroteBy, runFor}
-use Rattle.replay.specs.Replay.{entriesOf, writtenInto, replayedRun}
+use Rattle.run.specs.Run.{Run, wroteBy, runFor}
+use Rattle.run.specs.Replay.{entriesOf, writtenInto, replayedRun}
 use Rattle.replay.specs.Progress.{progressOf, progressAfter, RunsThrough}
 use Rattle.replay.specs.declared.replays.Progress.{Progress}
 use Rattle.replay.proofs.Replaying.{run, run-rests, progress-after, store-room, store-is, turn-fits, written-length, writes-small}

@@ -1,0 +1,121 @@
+-- Starts: every start fetches as audited and agrees with an auditor that knows nothing, and there is one for each ADDR and DATA. Assumes nothing.
+use Prim.Native.Nat.{ℕ, zero, suc, _-_, _^_, _<_}
+use mathlib.Core.Path.{_≡_, refl, sym, _∙_}
+use mathlib.Core.Bool.{true, and-false}
+use mathlib.Core.List.{List, [], _∷_, _++_}
+use native.Mathlib.Omega.{arith}
+use lib.Dec.{leb}
+use lib.ListN.{length, getD, replicate, List·getD-append}
+use borrow.Author.Tests.{leb-true}
+use Rattle.families.specs.Family.{pausesMemory}
+use Rattle.isa.proofs.Tests.{both-left, both-right, bounds}
+use Rattle.fetch.specs.Fetch.{fetchOf}
+use Rattle.fetch.proofs.FetchLaws.{same-fetch}
+use Rattle.fetch.proofs.Places.{size-small}
+use Rattle.log.specs.Validity.{validLog}
+use Rattle.log.proofs.LeftLaws.{valid-row-start}
+use Rattle.flags.specs.Flags.{overrides1}
+use Rattle.state.specs.Slot.{slotOf}
+use Rattle.state.specs.declared.slots.SlotName.{SlotName}
+use Rattle.state.specs.declared.state.State.{State}
+use Rattle.state.proofs.SlotLaws.{has-a}
+use Rattle.verdict.specs.Auditor.{knowNothing}
+use Rattle.script.specs.Input.{marksPlain}
+use Rattle.run.specs.Replay.{replayState}
+use Rattle.run.specs.Run.{begun}
+use Rattle.verdict.specs.Start.{InType, Start}
+use Rattle.script.proofs.Scripts.{Script, Log, Fits, Auditable}
+use Rattle.run.proofs.Filled.{filled-size, filled-marks, filled-code}
+use Rattle.verdict.proofs.Steady.{SteadyRun}
+use Rattle.verdict.proofs.Agreement.{Agree}
+
+-- ---- what is fetched from a start
+
+module _ (family : ℕ) (code marks : List ℕ) (entry : ℕ) (fit : Fits family code marks entry) where
+  pub start-fetches : (name : SlotName) (s : State) → Start family code marks entry name s → (at : ℕ) → fetchOf family (s .code) (s .marks) at ≡ fetchOf family code marks at
+  start-fetches name s start =
+      same-fetch family code marks (s .code) (s .marks) (omega (arith, fit .code-size)) (omega (arith, size-small family, start .in-type .code-size)) (start .uploaded) (start .as-audited)
+
+-- ---- every start
+
+module _ (x : Script) (entry : ℕ) (fit : Fits (x .family) (x .code) (x .marks) entry) (name : SlotName) (s : State) (start : Start (x .family) (x .code) (x .marks) entry name s)
+    (log : Log) (valid : validLog (log .clocks) (log .known) (log .values) ≡ true) where
+  pub begun-steady : SteadyRun x name log (begun s)
+  begun-steady = record {
+    known-family = fit .known;
+    slot-there = start .slot-there;
+    valid-log = valid;
+    same-family = start .same-family;
+    enabled = start .enabled;
+    fetches = start-fetches (x .family) (x .code) (x .marks) entry fit name s start;
+    valid-place = valid-row-start (log .clocks) (log .known) (log .values) valid 0 (omega arith);
+  }
+
+  pub begun-agrees : Agree x name log (slotOf s name .addr .0) (slotOf s name .«data») entry knowNothing (begun s)
+  begun-agrees = record {
+    steady = begun-steady;
+    going = start .executing;
+    ip = start .at-entry;
+    held = refl;
+    high = λ _. refl;
+    paused = start .not-paused ∙ sym (and-false (pausesMemory (x .family)));
+    count = refl;
+    writes = refl;
+    waits = refl;
+    listed = tt;
+  }
+
+-- ---- some start
+
+replicate-bytes : (n i : ℕ) → getD (replicate n 0) i 0 < 256
+replicate-bytes zero i = omega arith
+replicate-bytes (suc n) zero = omega arith
+replicate-bytes (suc n) (suc i) = replicate-bytes n i
+
+filled-bytes : (l : List ℕ) (n : ℕ) → ((i : ℕ) → getD l i 0 < 256) → (i : ℕ) → getD (l ++ replicate n 0) i 0 < 256
+filled-bytes [] n b i = replicate-bytes n i
+filled-bytes (y ∷ l) n b zero = b 0
+filled-bytes (y ∷ l) n b (suc i) = filled-bytes l n (λ j. b (suc j)) i
+
+plain-bytes : (marks : List ℕ) → marksPlain marks ≡ true → (i : ℕ) → getD marks i 0 < 256
+plain-bytes [] p i = omega arith
+plain-bytes (m ∷ marks) p zero = omega (arith, leb-true m 1 (both-left (leb m 1) (marksPlain marks) p))
+plain-bytes (m ∷ marks) p (suc i) = plain-bytes marks (both-right (leb m 1) (marksPlain marks) p) i
+
+-- slot A runs the script with this ADDR and DATA, all else is fresh
+abbrev pub someState : Script → ℕ → ℕ → ℕ → State
+someState x entry addr word = replayState (x .family) (x .code) (x .marks) entry addr word 0 0 true
+
+module _ (x : Script) (entry : ℕ) (fit : Auditable x entry) (addr word : ℕ) (small-addr : addr < 2 ^ 32) (small-word : word < 2 ^ 32) where
+  some-in-type : InType (someState x entry addr word)
+  some-in-type =
+      let fam = bounds 1 (x .family) 4 (fit .fits .known) in
+      let size = size-small (x .family) in
+      record {
+        family = omega (arith, fam .1);
+        code-size = filled-size (x .code) (omega (arith, fit .fits .code-size));
+        code-bytes = filled-bytes (x .code) (512 - length (x .code)) (fit .bytes);
+        marks-size = filled-size (x .marks) (omega (arith, fit .fits .marks-size));
+        marks-bytes = filled-bytes (x .marks) (512 - length (x .marks)) (plain-bytes (x .marks) (fit .fits .plain));
+        values = omega arith;
+        enables = omega arith;
+        entries = omega arith;
+        entries-high = omega arith;
+        a = record { ip = omega (arith, fit .fits .entry-low); addr = small-addr; word = small-word };
+        b = record { ip = omega arith; addr = omega arith; word = omega arith };
+      }
+
+  pub some-start : Start (x .family) (x .code) (x .marks) entry SlotName.A (someState x entry addr word)
+  unfolding overrides1
+  some-start = record {
+    in-type = some-in-type;
+    same-family = refl;
+    slot-there = has-a (x .family) (fit .fits .known);
+    uploaded = filled-marks (x .family) (x .code) (x .marks) entry (fit .fits);
+    as-audited = λ i h _. filled-code (x .family) (x .code) (x .marks) entry (fit .fits) i h;
+    executing = refl;
+    at-entry = refl;
+    other-idle = λ _. refl;
+    enabled = refl;
+    not-paused = and-false (pausesMemory (x .family));
+  }

@@ -1,0 +1,198 @@
+-- Demand 3: what a verdict of the auditor means for whole runs. One claim, `Demand3`, about every verdict.
+use Prim.Native.Nat.{ℕ, suc, _+_, _≤_}
+use mathlib.Core.Path.{_≡_}
+use mathlib.Core.Logic.{_⊎_}
+use mathlib.Core.Bool.{true, false}
+use mathlib.Core.List.{List, [], _∷_}
+use lib.ListN.{length}
+use Rattle.families.specs.Family.{codeSize}
+use Rattle.isa.specs.declared.addresses.CodeAddress.{CodeAddress}
+use Rattle.isa.specs.declared.addresses.MmioAddress.{MmioAddress}
+use Rattle.refusals.specs.declared.refusals.Unreadable.{Unreadable}
+use Rattle.log.specs.Validity.{validLog}
+use Rattle.log.specs.declared.place.Place.{Place}
+use Rattle.flags.specs.Flags.{pausedOf, flagsWord0, flagsWord1}
+use Rattle.state.specs.Slot.{slotOf, withSlot}
+use Rattle.flags.specs.declared.flags.Flags.{Flags}
+use Rattle.state.specs.declared.slots.Mode.{Mode}
+use Rattle.state.specs.declared.slots.Slot.{Slot}
+use Rattle.state.specs.declared.slots.SlotName.{SlotName}
+use Rattle.state.specs.declared.state.State.{State}
+use Rattle.machine.specs.declared.steps.Stepped.{Stepped}
+use Rattle.refusals.specs.declared.refusals.Unsteppable.{Unsteppable}
+use Rattle.turn.specs.declared.turn.Effect.{Effect}
+use Rattle.script.specs.Input.{listedIn, inputFits}
+use Rattle.run.specs.Run.{Run, Write, begun, nextStep, runFor}
+use Rattle.run.specs.Replay.{toldOf, fullRun, replayOf, replayedRun}
+use Rattle.verdict.specs.Start.{Start}
+use Rattle.refusals.specs.declared.refusals.Fault.{Fault}
+use Rattle.verdict.specs.declared.verdicts.Verdict.{Verdict}
+use Rattle.run.specs.declared.answers.ReplayAnswer.{ReplayAnswer}
+
+-- every address written is listed
+abbrev pub AllListed : List ℕ → List Write → Type 0
+AllListed ranges [] = Unit {0}
+AllListed ranges (w ∷ writes) = (listedIn ranges (w .address) ≡ true) × AllListed ranges writes
+
+-- a step that was not refused, met no unknown opcode and did not leave the uploaded code
+abbrev pub Orderly : Effect → Type 0
+Orderly (Effect.Refused why) = ⊥
+Orderly Effect.Nothing = Unit {0}
+Orderly (Effect.Stopped why) = ⊥
+Orderly Effect.Unknown = ⊥
+Orderly Effect.Done = Unit {0}
+Orderly (Effect.Wrote address word) = Unit {0}
+
+-- a step that fetched nothing
+abbrev pub Fetchless : Effect → Type 0
+Fetchless (Effect.Refused why) = Unit {0}
+Fetchless Effect.Nothing = Unit {0}
+Fetchless (Effect.Stopped why) = ⊥
+Fetchless Effect.Unknown = ⊥
+Fetchless Effect.Done = ⊥
+Fetchless (Effect.Wrote address word) = ⊥
+
+-- one audited script, and the slot whose run is spoken of
+module _ (family : ℕ) (code marks : List ℕ) (entry : ℕ) (ranges : List ℕ) where
+  module _ (name : SlotName) where
+    -- the next step fetches at the place
+    pub record AtPlace (place : ℕ) (r : Run) : Type 0 where
+      pub runs : slotOf (r .state) name .mode ≡ Mode.Running
+      pub ip : slotOf (r .state) name .ip .0 ≡ place
+
+    -- exit's step is done, IP on it, slot idle, and memory runs
+    pub record AtExit (place : ℕ) (r : Run) : Type 0 where
+      pub idle : slotOf (r .state) name .mode ≡ Mode.Idle
+      pub ip : slotOf (r .state) name .ip .0 ≡ place
+      pub memory-runs : pausedOf family (r .state .flags) ≡ false
+
+    -- in a wait with the log used up
+    pub record InWait (clocks : List ℕ) (r : Run) : Type 0 where
+      pub waits : slotOf (r .state) name .mode ≡ Mode.Waiting
+      pub row : r .place .row ≡ length clocks
+      pub used : r .place .used ≡ 0
+
+    -- the numbers of the verdict are the run's
+    pub record Exact (place count writes clocks : ℕ) (r : Run) : Type 0 where
+      pub exit : AtExit place r
+      pub counted : r .count ≡ count
+      pub wrote : length (r .writes) ≡ writes
+      pub waited : r .waits ≡ clocks
+
+    -- what holds of a run of a passed script after n steps
+    pub record Safe (place count writes waitClocks : ℕ) (clocks known values : List ℕ) (n : ℕ) (r : Run) : Type 0 where
+      -- "wrote only listed addresses"
+      pub listed : AllListed ranges (r .writes)
+      -- "met no unknown opcode, never left the uploaded code", none of its steps refused: said of the next step, after any number of steps
+      pub orderly : Orderly (nextStep name clocks known values r .effect)
+      -- "ends at exit with memory running or in a wait with the log used up"
+      pub ended : codeSize family ≤ n → (AtExit place r) ⊎ (InWait clocks r)
+      -- "with exactly the reported place and counts"
+      pub exact : slotOf (r .state) name .mode ≡ Mode.Idle → Exact place count writes waitClocks r
+
+  -- replay of a start's values, with 340 entries lent, tells the run's own ending, state, place, steps and sums, and its writes in order
+  abbrev pub ReplayTells : SlotName → State → List ℕ → List ℕ → List ℕ → Type 0
+  ReplayTells name s clocks known values =
+      (replayOf family code marks entry (slotOf s name .addr .0) (slotOf s name .«data») (flagsWord0 (s .flags)) (flagsWord1 (s .flags)) true clocks known values 340
+      ≡ ReplayAnswer.Ended (toldOf name clocks (fullRun name clocks known values s)))
+      × (replayedRun family code marks entry (slotOf s name .addr .0) (slotOf s name .«data») (flagsWord0 (s .flags)) (flagsWord1 (s .flags)) true clocks known values .writes
+      ≡ fullRun name clocks known values s .writes)
+
+  -- what a pass means
+  pub record PassMeans (place count writes waitClocks : ℕ) : Type 0 where
+    -- "from every start, under every log, after any number of steps"
+    pub safe : (name : SlotName) (s : State) → Start family code marks entry name s → (clocks known values : List ℕ) → validLog clocks known values ≡ true
+        → (n : ℕ) → Safe name place count writes waitClocks clocks known values n (runFor name clocks known values n (begun s))
+    -- each instruction takes a byte of the code RAM
+    pub bounded : count ≤ codeSize family
+    -- "some log brings it to exit"
+    pub reaches : (name : SlotName) (s : State) → Start family code marks entry name s
+        → (clocks : List ℕ) × (known : List ℕ) × (values : List ℕ) × (n : ℕ) × (validLog clocks known values ≡ true) × (AtExit name place (runFor name clocks known values n (begun s)))
+    -- "replay answers what the steps give"
+    pub replays : (name : SlotName) (s : State) → Start family code marks entry name s → (clocks known values : List ℕ) → validLog clocks known values ≡ true
+        → ReplayTells name s clocks known values
+
+  -- ---- what a fault means: a run that shows it
+
+  -- a run of a start, n steps under a log
+  pub record Witness : Type 0 where
+    pub name : SlotName
+    pub start : State
+    pub starts : Start family code marks entry name start
+    pub clocks : List ℕ
+    pub known : List ℕ
+    pub values : List ℕ
+    pub log : validLog clocks known values ≡ true
+    pub steps : ℕ
+
+  abbrev pub runOf : Witness → Run
+  runOf w = runFor (w .name) (w .clocks) (w .known) (w .values) (w .steps) (begun (w .start))
+
+  abbrev pub nextEffect : Witness → Effect
+  nextEffect w = nextStep (w .name) (w .clocks) (w .known) (w .values) (runOf w) .effect
+
+  -- some log brings a start to the place, and its next step has the effect
+  abbrev pub Shows : ℕ → (Effect → Type 0) → Type 0
+  Shows place P = (w : Witness) × (AtPlace (w .name) place (runOf w)) × (P (nextEffect w))
+
+  -- two starts, one log, equally many steps: both at the place, and they write differently there
+  pub record WriteDifferently (place : ℕ) (one two : Witness) : Type 0 where
+    pub same-slot : one .name ≡ two .name
+    pub same-clocks : one .clocks ≡ two .clocks
+    pub same-known : one .known ≡ two .known
+    pub same-values : one .values ≡ two .values
+    pub same-steps : one .steps ≡ two .steps
+    pub first : AtPlace (one .name) place (runOf one)
+    pub second : AtPlace (two .name) place (runOf two)
+    pub address : ℕ
+    pub word : ℕ
+    pub address′ : ℕ
+    pub word′ : ℕ
+    pub writes : nextEffect one ≡ Effect.Wrote (record { 0 = address }) word
+    pub writes′ : nextEffect two ≡ Effect.Wrote (record { 0 = address′ }) word′
+    pub differ : (address ≡ address′) → (word ≡ word′) → ⊥
+
+  -- the state with another ADDR, or another DATA, in a slot, and else the same
+  abbrev pub withAddr : SlotName → State → ℕ → State
+  withAddr name s addr = let slot = slotOf s name in
+      withSlot s name (record { mode = slot .mode; ip = slot .ip; addr = record { 0 = addr }; «data» = slot .«data» }) (s .flags)
+
+  abbrev pub withData : SlotName → State → ℕ → State
+  withData name s word = let slot = slotOf s name in
+      withSlot s name (record { mode = slot .mode; ip = slot .ip; addr = slot .addr; «data» = word }) (s .flags)
+
+  abbrev pub FaultMeans : Fault → ℕ → Type 0
+  -- 1: that step stops for a byte past the code RAM, at the opcode or in its operands
+  FaultMeans Fault.PastRam place = Shows place (λ e. (e ≡ Effect.Stopped Unreadable.Empty) ⊎ (e ≡ Effect.Stopped Unreadable.Short))
+  -- 2: it stops for a byte never uploaded
+  FaultMeans Fault.NotUploaded place = Shows place (λ e. e ≡ Effect.Stopped Unreadable.NotUploaded)
+  -- 3: it meets an unknown opcode
+  FaultMeans Fault.Unknown place = Shows place (λ e. e ≡ Effect.Unknown)
+  -- 4: two starts that differ only in ADDR write differently there
+  FaultMeans Fault.NoAddress place = (one : Witness) × (two : Witness) × (addr : ℕ) × (two .start ≡ withAddr (one .name) (one .start) addr) × (WriteDifferently place one two)
+  -- 5: two starts that differ only in DATA write differently there
+  FaultMeans Fault.HalfData place = (one : Witness) × (two : Witness) × (word : ℕ) × (two .start ≡ withData (one .name) (one .start) word) × (WriteDifferently place one two)
+  -- 6: it writes outside every range
+  FaultMeans Fault.Outside place = Shows place (λ e. (address : ℕ) × (word : ℕ) × (e ≡ Effect.Wrote (record { 0 = address }) word) × (listedIn ranges address ≡ false))
+  -- 7: some log brings a run there, and no log lets a run from any start fetch again after that step
+  FaultMeans Fault.Unreleased place =
+      (Shows place (λ e. Unit {0}))
+      × ((name : SlotName) (s : State) → Start family code marks entry name s → (clocks known values : List ℕ) → validLog clocks known values ≡ true
+      → (n : ℕ) → AtPlace name place (runFor name clocks known values n (begun s))
+      → (m : ℕ) → Fetchless (nextStep name clocks known values (runFor name clocks known values (suc (n + m)) (begun s)) .effect))
+  -- 8: it exits there with memory paused
+  FaultMeans Fault.Paused place = (w : Witness) × (AtPlace (w .name) place (runOf w))
+      × (let after = runFor (w .name) (w .clocks) (w .known) (w .values) (suc (w .steps)) (begun (w .start)) in
+      (slotOf (after .state) (w .name) .mode ≡ Mode.Idle) × (slotOf (after .state) (w .name) .ip .0 ≡ place) × (pausedOf family (after .state .flags) ≡ true))
+  -- 9: its row applies, and its place is 0
+  FaultMeans Fault.Input place = (inputFits family code marks entry ranges ≡ false) × (place ≡ 0)
+
+  abbrev pub VerdictMeans : Verdict → Type 0
+  VerdictMeans (Verdict.Pass place count writes clocks) = PassMeans (place .0) count writes clocks
+  VerdictMeans (Verdict.Fault fault place) = FaultMeans fault (place .0)
+
+  -- the claim about the auditor's verdict
+  pub record Demand3 (verdict : Verdict) : Type 0 where
+    pub means : VerdictMeans verdict
+    -- 9 exactly where its row says: there, and by `means` nowhere else
+    pub input : inputFits family code marks entry ranges ≡ false → verdict ≡ Verdict.Fault Fault.Input (record { 0 = 0 })

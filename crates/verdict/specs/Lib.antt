@@ -1,0 +1,3 @@
+pub mod Auditor
+pub mod Start
+pub mod Demand3
