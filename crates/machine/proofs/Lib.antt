@@ -1,3 +1,3 @@
-pub mod TurnLaws
+mod Taken
 pub mod StepLaws
 pub mod TakenTurns

@@ -26,7 +26,8 @@ use Rattle.machine.specs.declared.steps.Stepped.{Stepped}
 use Rattle.refusals.specs.declared.refusals.Unsteppable.{Unsteppable}
 use Rattle.turn.specs.declared.turn.Effect.{Effect}
 use Rattle.turn.specs.declared.turn.Turn.{Turn}
-use Rattle.machine.proofs.TurnLaws.{turn-clocks, turn-place, turn-taken}
+use Rattle.turn.proofs.TurnLaws.{turn-clocks, turn-place}
+use Rattle.machine.proofs.Taken.{turn-taken}
 
 -- ---- what a step is
 

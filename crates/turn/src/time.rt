@@ -74,9 +74,6 @@ pub fn elapse<'a>(
             log::event_wait(clocks, known, values, at, event, value),
             clocks.len(),
         ),
-        Action::Flag(_, _) => at_once(at),
-        Action::Load(_, _) => at_once(at),
-        Action::Poke(_, _) => at_once(at),
-        Action::Exit => at_once(at),
+        _ => at_once(at),
     }
 }

@@ -60,10 +60,9 @@ fn mode_after(action: Action, enable: bool, finished: bool) -> Mode
     match action {
         Action::Wait(_) => held_unless(finished),
         Action::Ewait(_, _) => held_unless(finished),
-        Action::Flag(_, _) => Mode::Running,
-        Action::Load(_, _) => Mode::Running,
         Action::Poke(_, _) => blocked_unless(enable),
         Action::Exit => Mode::Idle,
+        _ => Mode::Running,
     }
 }
 
@@ -71,12 +70,8 @@ fn ip_after(action: Action, at: usize, next: usize) -> usize
     ensures { λ r. ⌜ r ≡ ipAfter action at next ⌝ }
 {
     match action {
-        Action::Wait(_) => next,
-        Action::Ewait(_, _) => next,
-        Action::Flag(_, _) => next,
-        Action::Load(_, _) => next,
-        Action::Poke(_, _) => next,
         Action::Exit => at,
+        _ => next,
     }
 }
 
@@ -84,12 +79,8 @@ fn addr_after(action: Action, addr: u32) -> u32
     ensures { λ r. ⌜ r ≡ addrAfter action addr ⌝ }
 {
     match action {
-        Action::Wait(_) => addr,
-        Action::Ewait(_, _) => addr,
-        Action::Flag(_, _) => addr,
-        Action::Load(_, _) => addr,
         Action::Poke(part, operand) => merge(part, addr, operand),
-        Action::Exit => addr,
+        _ => addr,
     }
 }
 
@@ -97,12 +88,8 @@ fn data_after(action: Action, word: u32) -> u32
     ensures { λ r. ⌜ r ≡ dataAfter action word ⌝ }
 {
     match action {
-        Action::Wait(_) => word,
-        Action::Ewait(_, _) => word,
-        Action::Flag(_, _) => word,
         Action::Load(part, operand) => merge(part, word, operand),
-        Action::Poke(_, _) => word,
-        Action::Exit => word,
+        _ => word,
     }
 }
 
@@ -110,12 +97,8 @@ fn flags_after(action: Action, flags: Flags) -> Flags
     ensures { λ r. ⌜ r ≡ flagsAfter action flags ⌝ }
 {
     match action {
-        Action::Wait(_) => flags,
-        Action::Ewait(_, _) => flags,
         Action::Flag(change, flag) => changed_flags(change, flag, flags),
-        Action::Load(_, _) => flags,
-        Action::Poke(_, _) => flags,
-        Action::Exit => flags,
+        _ => flags,
     }
 }
 
@@ -134,12 +117,8 @@ fn effect_of(action: Action, enable: bool, addr: u32, word: u32) -> Effect
     ensures { λ r. ⌜ r ≡ effectOf action enable addr word ⌝ }
 {
     match action {
-        Action::Wait(_) => Effect::Done,
-        Action::Ewait(_, _) => Effect::Done,
-        Action::Flag(_, _) => Effect::Done,
-        Action::Load(_, _) => Effect::Done,
         Action::Poke(part, operand) => poke_effect(enable, merge(part, addr, operand), word),
-        Action::Exit => Effect::Done,
+        _ => Effect::Done,
     }
 }
 
@@ -189,11 +168,9 @@ pub fn unfetched(
 ) -> Turn
     ensures { λ r. ⌜ r ≡ unfetchedAt family slot flags place next why ⌝ }
 {
-    let addr = slot.addr;
     match why {
-        Unreadable::Family => unmoved(slot, flags, place, Effect::Stopped(why)),
-        Unreadable::Empty => unmoved(slot, flags, place, Effect::Stopped(why)),
         Unreadable::Unknown => {
+            let addr = slot.addr;
             let after = Slot {
                 mode: hung_if(families::unknown_hangs(family)),
                 ip: CodeAddress(next),
@@ -202,8 +179,7 @@ pub fn unfetched(
             };
             unmoved(after, flags, place, Effect::Unknown)
         }
-        Unreadable::Short => unmoved(slot, flags, place, Effect::Stopped(why)),
-        Unreadable::NotUploaded => unmoved(slot, flags, place, Effect::Stopped(why)),
+        _ => unmoved(slot, flags, place, Effect::Stopped(why)),
     }
 }
 

@@ -1,25 +1,14 @@
 -- Assumes nothing.
 use borrow.Author.Needs.{needs}
+use Rattle.turn.proofs.Others.{data-stays}
 use Rattle.turn.proofs.turn.data_after.Statement.{statement}
 use Rattle.turn.proofs.turn.data_after.Tie as tie
 
-returns-4 : tie.Need-returns-4
-returns-4 c = simp (c .before .before .action .given .1, c .merge .ensures)
+returns : tie.Need-returns
+returns c = simp (c .before .before .action .given .1, c .merge .ensures)
+
+returns-2 : tie.Need-returns-2
+returns-2 c = data-stays (c .before .args .action) (c .before .args .word) (c .match .keys2)
 
 pub data-after-spec : {M : Type 1} → statement M
-data-after-spec =
-    tie.close
-    (tie.spec
-    (λ c. search needs)
-    (λ c. search needs)
-    (λ c. search needs)
-    (λ c. search needs)
-    (λ c κs. search needs)
-    (λ c. search needs)
-    (λ c. search needs)
-    (λ c. search needs)
-    (λ c. search needs)
-    (λ c. search needs)
-    returns-4
-    (λ c. search needs)
-    (λ c. search needs))
+data-after-spec = tie.close (tie.spec (λ c. search needs) (λ c κs. search needs) returns returns-2)

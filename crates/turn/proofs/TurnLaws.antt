@@ -1,7 +1,7 @@
--- What a turn does to the place and the clocks, and that none is refused. Assumes nothing.
+-- What a turn does to the place and the clocks. Assumes nothing.
 use Prim.Native.Nat.{ℕ, _+_}
 use mathlib.Core.Path.{_≡_, refl}
-use mathlib.Core.Bool.{Bool, true, false}
+use mathlib.Core.Bool.{Bool, true}
 use mathlib.Core.List.{List}
 use native.Mathlib.Omega.{arith}
 use lib.ListN.{length}
@@ -16,9 +16,8 @@ use Rattle.log.proofs.EwaitLaws.{ReleasedWithin, ewait-valid, ewait-spent}
 use Rattle.log.proofs.LeftLaws.{valid-at-end, left-end, left-fits}
 use Rattle.log.proofs.WaitLaws.{wait-valid, wait-spent}
 use Rattle.actions.specs.Action.{actionOf}
 use Rattle.turn.specs.Time.{afterEwait, elapsedOf}
-use Rattle.turn.specs.Turn.{effectOf, performOf, unfetched, turnOf}
-use Rattle.machine.specs.Promises.{effectNumber}
+use Rattle.turn.specs.Turn.{performOf, unfetched, turnOf}
 use Rattle.actions.specs.declared.actions.Action.{Action}
 use Rattle.flags.specs.declared.flags.Flags.{Flags}
 use Rattle.state.specs.declared.slots.Slot.{Slot}
@@ -82,27 +81,3 @@ module _ (clocks known values : List ℕ) (log : validLog clocks known values �
   unfolding performOf
   turn-place family enable slot flags p (Decoded.Instruction instruction n) v = elapsed-place (actionOf instruction) p v
   turn-place family enable slot flags p (Decoded.Refused why) v = rw (unfetched-place family slot flags p why) v
-
-action-taken : (action : Action) (enable : Bool) (addr word : ℕ) → effectNumber (effectOf action enable addr word) ≡ 0
-action-taken (Action.Wait n) enable addr word = refl
-action-taken (Action.Ewait event value) enable addr word = refl
-action-taken (Action.Flag change flag) enable addr word = refl
-action-taken (Action.Load part operand) enable addr word = refl
-action-taken (Action.Poke part operand) true addr word = refl
-action-taken (Action.Poke part operand) false addr word = refl
-action-taken Action.Exit enable addr word = refl
-
-unfetched-taken : (family : ℕ) (slot : Slot) (flags : Flags) (p : Place) (why : Unreadable) → effectNumber (unfetched family slot flags p why .effect) ≡ 0
-unfetched-taken family slot flags p Unreadable.Family = refl
-unfetched-taken family slot flags p Unreadable.Empty = refl
-unfetched-taken family slot flags p Unreadable.Unknown = refl
-unfetched-taken family slot flags p Unreadable.Short = refl
-unfetched-taken family slot flags p Unreadable.NotUploaded = refl
-
--- no turn is a refusal
-pub turn-taken : (family : ℕ) (enable : Bool) (slot : Slot) (flags : Flags) (clocks known values : List ℕ) (p : Place) (fetched : Decoded)
-    → effectNumber (turnOf family enable slot flags clocks known values p fetched .effect) ≡ 0
-unfolding performOf
-turn-taken family enable slot flags clocks known values p (Decoded.Instruction instruction n) =
-    action-taken (actionOf instruction) enable (slot .addr .0) (slot .«data»)
-turn-taken family enable slot flags clocks known values p (Decoded.Refused why) = unfetched-taken family slot flags p why
