@@ -1,6 +1,7 @@
 // What an instruction asks of the machine: the ten instructions in six classes.
 ghost use mathlib.Core.Path.{_≡_};
 ghost use Rattle.actions.specs.Action.{actionOf, mergeOf};
+use crate::clocks::wait_clocks;
 use flags::Change;
 use isa::Instruction;
 use isa::MmioAddress;
@@ -24,7 +25,7 @@ pub fn action_of(instruction: Instruction) -> Action
     ensures { λ r. ⌜ r ≡ actionOf instruction ⌝ }
 {
     match instruction {
-        Instruction::Wait { length, shift } => Action::Wait(isa::wait_clocks(length, shift)),
+        Instruction::Wait { length, shift } => Action::Wait(wait_clocks(length, shift)),
         Instruction::AddrLo(low) => Action::Poke(Part::Low, low as u32),
         Instruction::DataLo(low) => Action::Load(Part::Low, low as u32),
         Instruction::Ewait { event, value } => Action::Ewait(event, value),

@@ -70,7 +70,7 @@ pub fn fetch<'a>(family: u8, code: &'a [u8], marks: &'a [u8], at: usize) -> Deco
     if mark(marks, at) != 1 {
         return Decoded::Refused(Unreadable::NotUploaded);
     }
-    check_marks(isa::decode(family, &code[at..end]), marks, at)
+    check_marks(reader::decode(family, &code[at..end]), marks, at)
 }
 
 // Why nothing was fetched. Of an instruction it says that there is no byte, which no caller asks.

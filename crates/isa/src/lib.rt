@@ -1,4 +1,5 @@
-// The instructions of the hardware sequencer on card families 1 to 4, and their reader.
+// The instructions of the hardware sequencer on card families 1 to 4: what they are, how they are spelled and read, and the laws
+// between the two; no code.
 mod addresses;
 mod encoding;
 mod instructions;
@@ -9,7 +10,5 @@ pub use addresses::CodeAddress;
 pub use addresses::MmioAddress;
 pub use encoding::Encoded;
 pub use instructions::Instruction;
-pub use instructions::wait_clocks;
 pub use opcodes::Opcode;
 pub use reader::Decoded;
-pub use reader::decode;

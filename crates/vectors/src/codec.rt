@@ -38,7 +38,7 @@ pub(crate) fn family(head: Head) {
 pub(crate) fn clocks(head: Head) {
     let length = words::byte(head.w1.decimal);
     let shift = words::byte(head.w2.decimal);
-    show::form(b" %", 0, isa::wait_clocks(length, shift), 0, 0, 0);
+    show::form(b" %", 0, actions::wait_clocks(length, shift), 0, 0, 0);
 }
 
 pub(crate) fn decode(line: &[u8], head: Head) {
@@ -52,7 +52,7 @@ pub(crate) fn decode(line: &[u8], head: Head) {
 }
 
 fn decode_bytes(family: u8, bytes: [u8; ram::ROOM], count: usize) {
-    show_decoded(isa::decode(family, ram::part(&bytes, count)));
+    show_decoded(reader::decode(family, ram::part(&bytes, count)));
 }
 
 fn show_decoded(found: Decoded) {

@@ -1,10 +1,10 @@
 -- Assumes nothing.
 use native.Mathlib.Omega.{arith}
 use mathlib.Core.Path.{_∙_}
 use Rattle.isa.proofs.Opcode.{wait, exit, unset, set1, set0, addr-lo, data-lo, ewait, addr, data32, unknown}
 use borrow.Author.Needs.{needs}
-use Rattle.isa.proofs.opcodes.opcode_at.Statement.{statement}
-use Rattle.isa.proofs.opcodes.opcode_at.Tie as tie
+use Rattle.reader.proofs.opcodes.opcode_at.Statement.{statement}
+use Rattle.reader.proofs.opcodes.opcode_at.Tie as tie
 
 returns : tie.Need-returns
 returns c = c .later-only .ensures ∙ addr-lo _ _ (omega arith)

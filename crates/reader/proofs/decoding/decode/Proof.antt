@@ -4,13 +4,13 @@ use mathlib.Core.Path.{_≡_, _∙_, sym, ap, subst}
 use native.Mathlib.Omega.{arith}
 use borrow.Author.Needs.{needs}
 use borrow.Author.Tests.{not-true, not-false}
 use Rattle.isa.specs.Reader.{decodeOf, decodedNumber}
 use Rattle.isa.specs.Codec.{OneSpelling, Reads}
 use Rattle.isa.specs.declared.reader.Decoded.{Decoded}
 use Rattle.isa.proofs.Codec.{one-spelling}
 use Rattle.isa.proofs.Reading.{no-family, no-byte, short, whole, read-numbered}
-use Rattle.isa.proofs.reader.decode.Statement.{statement}
-use Rattle.isa.proofs.reader.decode.Tie as tie
+use Rattle.reader.proofs.decoding.decode.Statement.{statement}
+use Rattle.reader.proofs.decoding.decode.Tie as tie
 
 spelled-so : (c : tie.After-shared-slice-known) {r : Decoded} → r ≡ decodeOf (c .before .args .family) (now (c .before .args .bytes)) → Reads (c .before .args .family) (now (c .before .args .bytes)) r
 spelled-so c e =

@@ -2,8 +2,8 @@
 use mathlib.Core.Path.{sym}
 use lib.ListN.{List·getD-eq-default}
 use borrow.Author.Needs.{needs}
-use Rattle.isa.proofs.reader.byte.Statement.{statement}
-use Rattle.isa.proofs.reader.byte.Tie as tie
+use Rattle.reader.proofs.operands.byte.Statement.{statement}
+use Rattle.reader.proofs.operands.byte.Tie as tie
 
 returns-2 : tie.Need-returns-2
 returns-2 c = sym (List·getD-eq-default (c .before .args .bytes .now) 0 (c .if1 .left))

@@ -4,11 +4,11 @@ use mathlib.Core.Path.{_≡_, _∙_, sym, ap}
 use mathlib.Core.Bool.{true}
 use native.Mathlib.Omega.{arith}
 use borrow.Author.Needs.{needs}
 use Rattle.isa.specs.Wait.{waitFits, waitClocks}
 use Rattle.isa.proofs.Writing.{wait-fits}
 use Rattle.isa.proofs.Clocks.{exact, most}
-use Rattle.isa.proofs.instructions.wait_clocks.Statement.{statement}
-use Rattle.isa.proofs.instructions.wait_clocks.Tie as tie
+use Rattle.actions.proofs.clocks.wait_clocks.Statement.{statement}
+use Rattle.actions.proofs.clocks.wait_clocks.Tie as tie
 
 fits : (c : tie.Then1) → waitFits (c .before .before .args .length) (c .before .before .args .shift) ≡ true
 fits c = sym (c .before .wait-fits .ensures) ∙ c .if1 .taken

@@ -1,8 +1,8 @@
 -- Assumes nothing.
 use Rattle.isa.proofs.Bytes.{four}
 use borrow.Author.Needs.{needs}
-use Rattle.isa.proofs.reader.operand32.Statement.{statement}
-use Rattle.isa.proofs.reader.operand32.Tie as tie
+use Rattle.reader.proofs.operands.operand32.Statement.{statement}
+use Rattle.reader.proofs.operands.operand32.Tie as tie
 
 returns : tie.Need-returns
 returns c = simp (c .word32 .ensures, c .before .before .before .before .byte .ensures, c .before .before .before .byte2 .ensures, c .before .before .byte3 .ensures, c .before .byte4 .ensures) (four (c .before .before .before .before .before .before .args .bytes .now))

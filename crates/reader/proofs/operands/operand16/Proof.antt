@@ -1,8 +1,8 @@
 -- Assumes nothing.
 use Rattle.isa.proofs.Bytes.{two}
 use borrow.Author.Needs.{needs}
-use Rattle.isa.proofs.reader.operand16.Statement.{statement}
-use Rattle.isa.proofs.reader.operand16.Tie as tie
+use Rattle.reader.proofs.operands.operand16.Statement.{statement}
+use Rattle.reader.proofs.operands.operand16.Tie as tie
 
 returns : tie.Need-returns
 returns c = simp (c .word16 .ensures, c .before .before .byte .ensures, c .before .byte2 .ensures) (two (c .before .before .before .before .args .bytes .now))

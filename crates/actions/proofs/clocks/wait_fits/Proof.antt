@@ -1,7 +1,7 @@
 -- Assumes nothing.
 use borrow.Author.Tests.{le-leb, lt-leb}
-use Rattle.isa.proofs.instructions.wait_fits.Statement.{statement}
-use Rattle.isa.proofs.instructions.wait_fits.Tie as tie
+use Rattle.actions.proofs.clocks.wait_fits.Statement.{statement}
+use Rattle.actions.proofs.clocks.wait_fits.Tie as tie
 
 returns : tie.Need-returns
 returns c = simp (le-leb _ _ (c .if1 .taken))

@@ -1,7 +1,7 @@
 -- Assumes nothing.
 use borrow.Author.Tests.{le-leb, lt-leb}
-use Rattle.isa.proofs.opcodes.later_only.Statement.{statement}
-use Rattle.isa.proofs.opcodes.later_only.Tie as tie
+use Rattle.reader.proofs.opcodes.later_only.Statement.{statement}
+use Rattle.reader.proofs.opcodes.later_only.Tie as tie
 
 returns : tie.Need-returns
 returns c = simp (le-leb _ _ (c .if1 .taken))

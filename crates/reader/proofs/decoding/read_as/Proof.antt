@@ -1,7 +1,7 @@
 -- Assumes nothing.
 use borrow.Author.Needs.{needs}
-use Rattle.isa.proofs.reader.read_as.Statement.{statement}
-use Rattle.isa.proofs.reader.read_as.Tie as tie
+use Rattle.reader.proofs.decoding.read_as.Statement.{statement}
+use Rattle.reader.proofs.decoding.read_as.Tie as tie
 
 returns : tie.Need-returns
 returns c = simp (c .enum-told .given .1, c .before .before .byte .ensures)
