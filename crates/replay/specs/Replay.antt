@@ -9,7 +9,7 @@ use Rattle.families.specs.Family.{codeSize}
 use Rattle.isa.specs.declared.addresses.CodeAddress.{CodeAddress}
 use Rattle.isa.specs.declared.addresses.MmioAddress.{MmioAddress}
 use Rattle.refusals.specs.declared.refusals.Unreadable.{Unreadable}
-use Rattle.log.specs.Left.{leftOf}
+use Rattle.waits.specs.Left.{leftOf}
 use Rattle.log.specs.Validity.{validLog}
 use Rattle.log.specs.declared.place.Place.{Place}
 use Rattle.flags.specs.Flags.{flagsWord0, flagsWord1, flagsFromWords}

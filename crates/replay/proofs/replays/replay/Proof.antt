@@ -8,9 +8,9 @@ use native.Mathlib.Omega.{arith}
 use lib.ListN.{length}
 use borrow.Author.Needs.{needs}
 use borrow.Author.Tests.{le-leb, lt-leb, not-true, not-false}
-use Rattle.log.specs.Left.{leftOf}
+use Rattle.waits.specs.Left.{leftOf}
 use Rattle.log.specs.Validity.{validLog}
-use Rattle.log.proofs.LeftLaws.{left-fits}
+use Rattle.waits.proofs.LeftLaws.{left-fits}
 use Rattle.state.specs.declared.slots.SlotName.{SlotName}
 use Rattle.replay.specs.Progress.{progressOf, toldAt}
 use Rattle.replay.specs.Replay.{toldOf, replayOf, replayedRun, lentAfter, EndsRight, Replays}
