@@ -1,15 +1,13 @@
--- Laws of patterns and floats: the records of specs/Pattern and specs/Voltage from their answers. Assumes nothing.
+-- Laws of patterns and floats: the records of specs/Pattern from their answers. Assumes nothing.
 use mathlib.Core.Path.{_≡_, refl, sym, _∙_, subst}
 use mathlib.Core.Bool.{Bool, true, false, not, cond}
 use Prim.Native.Nat.{ℕ, _*_, _<_}
 use borrow.Author.Tests.{eq-eqb}
 use lib.Dec.{T}
-use lib.Ieee.{Float, nan, inf, fin, binary32, top, up, down, add, mul, div, lt, ne, fits, isNan, ofBits, toBits}
+use lib.Ieee.{Float, nan, inf, fin, binary32, top, up, down, div, lt, ne, fits, isNan, ofBits, toBits}
 use lib.Ieee.Bits.{nanBits-is, ofBits-toBits, toBits-ofBits}
-use Rattle.probe.specs.declared.calibration.Calibration.{Calibration}
-use Rattle.probe.specs.Pattern.{floatOf, nanPattern, patternOf, isFinite, FromPattern, ToPattern}
-use Rattle.probe.specs.Voltage.{voltsOf, halfway, halfwayOffset, Calibrates}
-use Rattle.probe.proofs.Comparison.{never}
+use Rattle.floats.specs.Pattern.{floatOf, nanPattern, patternOf, isFinite, FromPattern, ToPattern}
+use Rattle.floats.proofs.Comparison.{never}
 
 -- ---- NaN
 
@@ -71,21 +69,3 @@ unfolding lt
 not-above-lowest nan h = refl
 not-above-lowest (inf s) h = refl
 not-above-lowest (fin s m e) h = sym h
-
--- ---- volts
-
-nan-volts : (calibration : Calibration) → voltsOf calibration nan ≡ nan
-unfolding add mul
-nan-volts calibration = refl
-
--- the square of 1 + 2⁻¹² loses its 2⁻²⁴ before the offset takes the rest away
-two-roundings : voltsOf (record { gain = halfway; offset = halfwayOffset }) halfway ≡ floatOf 0
-unfolding add mul ofBits
-two-roundings = refl
-
-pub calibrates : (calibration : Calibration) (raw r : Float) → r ≡ voltsOf calibration raw → Calibrates calibration raw r
-calibrates calibration raw r answer = record {
-  answer = answer;
-  lost = λ h. answer ∙ rw h (nan-volts calibration);
-  apart = λ h g o. answer ∙ rw (h, g, o) two-roundings;
-}

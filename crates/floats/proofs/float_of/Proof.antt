@@ -1,4 +1,4 @@
--- `probe::float::float_of` meets its contract: above the infinity's pattern, the sign left out, stand the NaNs alone. Assumes nothing.
+-- `floats::float_of` meets its contract: above the infinity's pattern, the sign left out, stand the NaNs alone. Assumes nothing.
 use mathlib.Core.Path.{refl, sym, _∙_, subst}
 use mathlib.Core.Bool.{Bool, not}
 use Prim.Native.Nat.{_%_, _≤_}
@@ -8,9 +8,9 @@ use borrow.Author.Tests.{lt-ltb, le-ltb}
 use lib.Dec.{T}
 use lib.Ieee.{binary32, ofBits}
 use lib.Ieee.Bits.{nanBits-is, nanBits-above}
-use Rattle.probe.proofs.Patterns.{only-nan, zero-by-zero, from-pattern}
-use Rattle.probe.proofs.float.float_of.Statement.{statement}
-use Rattle.probe.proofs.float.float_of.Tie as tie
+use Rattle.floats.proofs.Patterns.{only-nan, zero-by-zero, from-pattern}
+use Rattle.floats.proofs.float_of.Statement.{statement}
+use Rattle.floats.proofs.float_of.Tie as tie
 
 float-from-bits-result : tie.Need-float-from-bits-result
 float-from-bits-result c =

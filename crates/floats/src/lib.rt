@@ -1,6 +1,6 @@
 // Bit patterns as floats and back, on every pattern and every float.
 ghost use mathlib.Core.Path.{_≡_};
-ghost use Rattle.probe.specs.Pattern.{FromPattern, ToPattern, isFinite};
+ghost use Rattle.floats.specs.Pattern.{FromPattern, ToPattern, isFinite};
 
 // The sign's weight in a pattern.
 const SIGN: u32 = 0x8000_0000;

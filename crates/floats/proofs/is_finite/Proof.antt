@@ -1,9 +1,9 @@
--- `probe::float::is_finite` meets its contract. Assumes nothing.
+-- `floats::is_finite` meets its contract. Assumes nothing.
 use lib.Ieee.{ofBits, neg, nanBits}
 use mathlib.Core.Path.{_∙_}
-use Rattle.probe.proofs.Patterns.{above-lowest, not-above-lowest}
-use Rattle.probe.proofs.float.is_finite.Statement.{statement}
-use Rattle.probe.proofs.float.is_finite.Tie as tie
+use Rattle.floats.proofs.Patterns.{above-lowest, not-above-lowest}
+use Rattle.floats.proofs.is_finite.Statement.{statement}
+use Rattle.floats.proofs.is_finite.Tie as tie
 
 float-from-bits-infinity : tie.Need-float-from-bits-infinity
 unfolding nanBits

@@ -1,11 +1,11 @@
--- `probe::float::pattern_of` meets its contract: NaN alone differs from itself. Assumes nothing.
+-- `floats::pattern_of` meets its contract: NaN alone differs from itself. Assumes nothing.
 use mathlib.Core.Path.{_≡_, sym, _∙_, subst}
 use mathlib.Core.Bool.{Bool, true, false, not}
 use lib.Dec.{T}
 use lib.Ieee.{isNan}
-use Rattle.probe.proofs.Patterns.{differs, to-pattern}
-use Rattle.probe.proofs.float.pattern_of.Statement.{statement}
-use Rattle.probe.proofs.float.pattern_of.Tie as tie
+use Rattle.floats.proofs.Patterns.{differs, to-pattern}
+use Rattle.floats.proofs.pattern_of.Statement.{statement}
+use Rattle.floats.proofs.pattern_of.Tie as tie
 
 float-to-bits-result : tie.Need-float-to-bits-result
 float-to-bits-result c = subst (λ (t : Bool). T (not t)) (sym (c .if1 .left) ∙ differs (c .before .args .x)) tt
