@@ -2,10 +2,11 @@
 use Prim.Native.Nat.{ℕ}
 use mathlib.Core.Path.{_≡_}
 use mathlib.Core.List.{List}
-use Rattle.verdict.specs.Auditor.{auditOf}
+use Rattle.verdict.specs.Auditor.{verdictNumber, auditOf, auditNumber}
 use Rattle.verdict.specs.Demand3.{Demand3}
 use Rattle.verdict.specs.declared.verdicts.Verdict.{Verdict}
 
 pub record Audits (family : ℕ) (code marks : List ℕ) (entry : ℕ) (ranges : List ℕ) (answer : Verdict) : Type 0 where
   pub answered : answer ≡ auditOf family code marks entry ranges
+  pub numbered : verdictNumber answer ≡ auditNumber family code marks entry ranges
   pub demand3 : Demand3 family code marks entry ranges answer

@@ -2,8 +2,8 @@
 use Prim.Native.Nat.{ℕ, _≤_, _<_}
 use mathlib.Core.Path.{_≡_, sym, ap, subst, _∙_}
 use borrow.Author.Tests.{lt-ltb, le-ltb}
-use Rattle.probe.proofs.Comparison.{never}
-use Rattle.probe.specs.Pattern.{patternOf}
+use Rattle.floats.proofs.Comparison.{never}
+use Rattle.floats.specs.Pattern.{patternOf}
 use Rattle.probe.specs.Sampling.{sampleOf, rawVolts, Samples}
 use Rattle.probe.specs.declared.calibration.Calibration.{Calibration}
 use Rattle.probe.specs.declared.gate.Gate.{Gate}

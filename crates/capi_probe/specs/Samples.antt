@@ -3,7 +3,7 @@ use Prim.Native.Nat.{ℕ}
 use mathlib.Core.Path.{_≡_}
 use mathlib.Core.Bool.{false, cond}
 use lib.Dec.{ltb, eqb}
-use Rattle.probe.specs.Pattern.{floatOf, patternOf, nanPattern}
+use Rattle.floats.specs.Pattern.{floatOf, patternOf, nanPattern}
 use Rattle.probe.specs.Refusal.{unusable}
 use Rattle.probe.specs.Sampling.{sampleOf, rawVolts, Samples}
 use Rattle.probe.specs.declared.calibration.Calibration.{Calibration}

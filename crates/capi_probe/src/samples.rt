@@ -37,20 +37,20 @@ pub extern "C" fn hwsq_sample(
         return unsampled();
     }
     let calibration = Calibration {
-        gain: probe::float_of(gain),
-        offset: probe::float_of(offset),
+        gain: floats::float_of(gain),
+        offset: floats::float_of(offset),
     };
-    let volts = calibration.volts(probe::float_of(raw));
+    let volts = calibration.volts(floats::float_of(raw));
     let sampled = probe::sample(gate_of(gate, low, high), calibration, raw);
-    sampled_reply(sampled, probe::pattern_of(volts))
+    sampled_reply(sampled, floats::pattern_of(volts))
 }
 
 // Levels of a dead gate are not looked at.
 fn gate_of(gate: u8, low: u32, high: u32) -> Gate
     ensures { λ r. ⌜ r ≡ gateOf gate low high ⌝ }
 {
-    let low = probe::float_of(low);
-    let high = probe::float_of(high);
+    let low = floats::float_of(low);
+    let high = floats::float_of(high);
     match gate {
         0 => Gate::Normal { low, high },
         1 => Gate::Inverted { low, high },

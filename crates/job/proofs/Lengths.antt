@@ -6,7 +6,7 @@ use native.Mathlib.Omega.{arith}
 use lib.Dec.{eqb}
 use lib.ListN.{length, length-append, length-take}
 use Rattle.isa.proofs.Tests.{cond-elim}
-use Rattle.log.specs.Coverage.{onesIn, readingCount, lowestZero, firstMissing}
+use Rattle.coverage.specs.Coverage.{onesIn, readingCount, lowestZero, firstMissing}
 use Rattle.log.specs.declared.place.Place.{Place}
 use Rattle.refusals.specs.Number.{faultNumber}
 use Rattle.run.specs.Run.{Write}

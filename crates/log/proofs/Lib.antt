@@ -1,5 +1,2 @@
-pub mod LeftLaws
-pub mod WaitLaws
-pub mod EwaitLaws
-pub mod Masks
+pub mod ValidLaws
 pub mod Ranges

@@ -1,5 +1,1 @@
 pub mod Validity
-pub mod Left
-pub mod Wait
-pub mod Ewait
-pub mod Coverage

@@ -1,7 +1,6 @@
 // Which columns are a log, and which places lie in it.
 ghost use mathlib.Core.Path.{_≡_};
 ghost use Rattle.log.specs.Validity.{clocksInRange, rowsInRange, validLog, validPlace};
-use crate::column::clocks_at;
 use crate::place::Place;
 
 // The most rows of a log.
@@ -52,7 +51,7 @@ pub fn valid_place(clocks: &[u64], at: Place) -> bool
 {
     let row = at.row;
     if row < clocks.len() {
-        return at.used < clocks_at(clocks, row);
+        return at.used < clocks[row];
     }
     if row == clocks.len() {
         return at.used == 0;

@@ -1,4 +1,3 @@
-pub mod Comparison
-pub mod Patterns
+pub mod Volts
 pub mod Refusals
 pub mod Readings

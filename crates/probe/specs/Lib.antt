@@ -1,4 +1,3 @@
-pub mod Pattern
 pub mod Voltage
 pub mod Refusal
 pub mod Reading

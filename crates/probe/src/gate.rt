@@ -1,5 +1,5 @@
 // From volts to a reading.
-use crate::float::is_finite;
+use floats::is_finite;
 ghost use mathlib.Core.Path.{_≡_};
 ghost use Rattle.probe.specs.Reading.{Reads, atLevels};
 

@@ -1,12 +1,12 @@
 // From a raw pattern to a reading, or to refusal 16.
 use crate::calibration::Calibration;
-use crate::float::float_of;
-use crate::float::is_finite;
 use crate::gate::Gate;
 use crate::gate::Reading;
+use floats::float_of;
+use floats::is_finite;
 ghost use mathlib.Core.Path.{_≡_};
 ghost use mathlib.Core.Bool.{_&&_};
-ghost use Rattle.probe.specs.Pattern.{isFinite};
+ghost use Rattle.floats.specs.Pattern.{isFinite};
 ghost use Rattle.probe.specs.Refusal.{Admits, levelsFit};
 ghost use Rattle.probe.specs.Sampling.{Samples};
 

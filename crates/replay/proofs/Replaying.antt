@@ -13,7 +13,7 @@ use Rattle.refusals.specs.declared.refusals.Unreadable.{Unreadable}
 use Rattle.fetch.specs.Fetch.{fetchOf}
 use Rattle.log.specs.Validity.{validLog, validPlace}
 use Rattle.log.specs.declared.place.Place.{Place}
-use Rattle.log.proofs.LeftLaws.{left-most}
+use Rattle.waits.proofs.LeftLaws.{left-most}
 use Rattle.state.specs.Slot.{isRunning, slotOf}
 use Rattle.machine.specs.Step.{afterTurn}
 use Rattle.turn.specs.Turn.{turnOf}

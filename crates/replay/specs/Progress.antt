@@ -6,7 +6,7 @@ use mathlib.Core.List.{List}
 use lib.ListN.{length}
 use Rattle.isa.specs.declared.addresses.CodeAddress.{CodeAddress}
 use Rattle.isa.specs.declared.addresses.MmioAddress.{MmioAddress}
-use Rattle.log.specs.Left.{leftOf}
+use Rattle.waits.specs.Left.{leftOf}
 use Rattle.log.specs.declared.place.Place.{Place}
 use Rattle.flags.specs.Flags.{flagsWord0, flagsWord1}
 use Rattle.state.specs.Slot.{slotOf}

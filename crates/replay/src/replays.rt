@@ -276,6 +276,6 @@ fn told(last: Progress, clocks: &[u64]) -> Replayed
         writes: last.used / 2,
         waited: last.waited,
         searched: last.searched,
-        left: log::clocks_left(clocks, place),
+        left: waits::clocks_left(clocks, place),
     }
 }

@@ -6,7 +6,7 @@ use mathlib.Core.List.{List}
 use native.Mathlib.Nat.{zero-add, suc-add}
 use native.Mathlib.Omega.{arith}
 use Rattle.log.specs.Validity.{validLog, validPlace}
-use Rattle.log.proofs.LeftLaws.{valid-row-start}
+use Rattle.log.proofs.ValidLaws.{valid-row-start}
 use Rattle.machine.specs.Promises.{Steps}
 use Rattle.state.specs.declared.slots.SlotName.{SlotName}
 use Rattle.state.specs.declared.state.State.{State}

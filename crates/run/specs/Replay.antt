@@ -1,15 +1,16 @@
 -- Replay (01, "Other refusals" and "Demand 3's words"): the run of one step more than the code RAM has bytes.
 use Prim.Native.Nat.{ℕ, suc, _+_, _-_, _*_}
 use mathlib.Core.Path.{_≡_}
-use mathlib.Core.Bool.{Bool, false, cond}
+use mathlib.Core.Bool.{Bool, false, cond, not}
 use mathlib.Core.List.{List, [], _∷_, _++_}
 use lib.ListN.{length, replicate, drop}
 use lib.Dec.{leb}
 use Rattle.families.specs.Family.{codeSize}
 use Rattle.isa.specs.declared.addresses.CodeAddress.{CodeAddress}
 use Rattle.isa.specs.declared.addresses.MmioAddress.{MmioAddress}
+use Rattle.refusals.specs.Number.{unreplayableNumber}
 use Rattle.refusals.specs.declared.refusals.Unreadable.{Unreadable}
-use Rattle.log.specs.Left.{leftOf}
+use Rattle.waits.specs.Left.{leftOf}
 use Rattle.log.specs.Validity.{validLog}
 use Rattle.log.specs.declared.place.Place.{Place}
 use Rattle.flags.specs.Flags.{flagsWord0, flagsWord1, flagsFromWords}
@@ -84,6 +85,11 @@ fullSteps family = suc (codeSize family)
 abbrev pub fullRun : SlotName → List ℕ → List ℕ → List ℕ → State → Run
 fullRun name clocks known values s = runFor name clocks known values (fullSteps (s .family)) (begun s)
 
+-- the number that replay's answer stands for, 0 where it ran
+abbrev pub answerNumber : ReplayAnswer → ℕ
+answerNumber (ReplayAnswer.Ended told) = 0
+answerNumber (ReplayAnswer.Refused why) = unreplayableNumber why
+
 -- what replay is asked
 module _ (family : ℕ) (code marks : List ℕ) (entry addr word flags0 flags1 : ℕ) (enable : Bool) (clocks known values : List ℕ) where
   abbrev pub replayedRun : Run
@@ -99,6 +105,14 @@ module _ (family : ℕ) (code marks : List ℕ) (entry addr word flags0 flags1 :
       (ReplayAnswer.Refused Unreplayable.Log))
       (ReplayAnswer.Refused Unreplayable.Room))
       (ReplayAnswer.Refused Unreplayable.Input)
+
+  -- which number it must have: 9 script, 14 fewer than 340 entries lent, 15 log, tested in this order
+  unfoldable pub replayRefusal : ℕ → ℕ
+  replayRefusal lent =
+      cond (not (scriptFits family code marks entry)) 9
+      (cond (not (leb 340 lent)) 14
+      (cond (not (validLog clocks known values)) 15
+      0))
 
   -- the lent entries after the answer: the writes and then as lent, and after a refusal as lent
   abbrev pub lentAfter : List ℕ → ReplayAnswer → List ℕ
@@ -120,5 +134,6 @@ module _ (family : ℕ) (code marks : List ℕ) (entry addr word flags0 flags1 :
   -- what replay promises of its answer and of the lent entries, old and new
   pub record Replays (old new : List ℕ) (answer : ReplayAnswer) : Type 0 where
     pub answered : answer ≡ replayOf (length old)
+    pub numbered : answerNumber answer ≡ replayRefusal (length old)
     pub lent : new ≡ lentAfter old answer
     pub ends : EndsRight answer

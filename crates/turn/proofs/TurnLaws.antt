@@ -7,14 +7,15 @@ use native.Mathlib.Omega.{arith}
 use lib.ListN.{length}
 use Rattle.isa.specs.declared.reader.Decoded.{Decoded}
 use Rattle.refusals.specs.declared.refusals.Unreadable.{Unreadable}
-use Rattle.log.specs.Ewait.{ewaitOf, passedBy, leftAfter}
-use Rattle.log.specs.Left.{leftOf}
+use Rattle.ewaits.specs.Ewait.{ewaitOf, passedBy, leftAfter}
+use Rattle.waits.specs.Left.{leftOf}
 use Rattle.log.specs.Validity.{validLog, validPlace}
-use Rattle.log.specs.declared.ewait.Released.{Released}
+use Rattle.ewaits.specs.declared.ewait.Released.{Released}
 use Rattle.log.specs.declared.place.Place.{Place}
-use Rattle.log.proofs.EwaitLaws.{ReleasedWithin, ewait-valid, ewait-spent}
-use Rattle.log.proofs.LeftLaws.{valid-at-end, left-end, left-fits}
-use Rattle.log.proofs.WaitLaws.{wait-valid, wait-spent}
+use Rattle.ewaits.proofs.EwaitLaws.{ReleasedWithin, ewait-valid, ewait-spent}
+use Rattle.log.proofs.ValidLaws.{valid-at-end}
+use Rattle.waits.proofs.LeftLaws.{left-end, left-fits}
+use Rattle.waits.proofs.WaitLaws.{wait-valid, wait-spent}
 use Rattle.actions.specs.Action.{actionOf}
 use Rattle.turn.specs.Time.{afterEwait, elapsedOf}
 use Rattle.turn.specs.Turn.{performOf, unfetched, turnOf}

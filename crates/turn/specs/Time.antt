@@ -4,11 +4,11 @@ use mathlib.Core.Bool.{true, false}
 use mathlib.Core.List.{List}
 use lib.ListN.{length}
 use lib.Dec.{eqb}
-use Rattle.log.specs.Wait.{waitOf}
-use Rattle.log.specs.Ewait.{ewaitOf}
-use Rattle.log.specs.declared.ewait.Released.{Released}
+use Rattle.waits.specs.Wait.{waitOf}
+use Rattle.ewaits.specs.Ewait.{ewaitOf}
+use Rattle.ewaits.specs.declared.ewait.Released.{Released}
 use Rattle.log.specs.declared.place.Place.{Place}
-use Rattle.log.specs.declared.wait.Waited.{Waited}
+use Rattle.waits.specs.declared.wait.Waited.{Waited}
 use Rattle.actions.specs.declared.actions.Action.{Action}
 use Rattle.flags.specs.declared.flags.Change.{Change}
 use Rattle.actions.specs.declared.actions.Part.{Part}

@@ -1,10 +1,10 @@
 // How time passes during an action.
 ghost use mathlib.Core.Path.{_≡_};
 ghost use Rattle.turn.specs.Time.{atOnce, afterWait, afterEwait, elapsedOf};
-ghost use Rattle.log.specs.Wait.{waitOf};
+ghost use Rattle.waits.specs.Wait.{waitOf};
 use actions::Action;
+use ewaits::Released;
 use log::Place;
-use log::Released;
 
 pub struct Elapsed {
     pub place: Place,
@@ -29,7 +29,7 @@ fn at_once(place: Place) -> Elapsed
 fn after_wait(clocks: &[u64], at: Place, n: u64) -> Elapsed
     ensures { λ r. ⌜ r ≡ afterWait n (waitOf (now (clocks .entry)) at n) ⌝ }
 {
-    let waited = log::clock_wait(clocks, at, n);
+    let waited = waits::clock_wait(clocks, at, n);
     let place = waited.place;
     let cut = waited.cut;
     Elapsed {
@@ -71,7 +71,7 @@ pub fn elapse<'a>(
     match action {
         Action::Wait(n) => after_wait(clocks, at, n),
         Action::Ewait(event, value) => after_ewait(
-            log::event_wait(clocks, known, values, at, event, value),
+            ewaits::event_wait(clocks, known, values, at, event, value),
             clocks.len(),
         ),
         _ => at_once(at),

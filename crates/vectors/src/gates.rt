@@ -10,11 +10,11 @@ use probe::Sampled;
 pub(crate) fn gate(head: Head) {
     let raw = head.w6.hex;
     let calibration = Calibration {
-        gain: probe::float_of(head.w4.hex),
-        offset: probe::float_of(head.w5.hex),
+        gain: floats::float_of(head.w4.hex),
+        offset: floats::float_of(head.w5.hex),
     };
     let sampled = probe::sample(gate_of(head), calibration, raw);
-    let volts = probe::pattern_of(calibration.volts(probe::float_of(raw)));
+    let volts = floats::pattern_of(calibration.volts(floats::float_of(raw)));
     show::form(
         b" refused 16| volts # reads 0| volts # reads 1| volts # reads none",
         form_of(sampled),
@@ -26,8 +26,8 @@ pub(crate) fn gate(head: Head) {
 }
 
 fn gate_of(head: Head) -> Gate {
-    let low = probe::float_of(head.w2.hex);
-    let high = probe::float_of(head.w3.hex);
+    let low = floats::float_of(head.w2.hex);
+    let high = floats::float_of(head.w3.hex);
     let kind = words::place_of(head.w1.name, b"normal inverted dead");
     match kind {
         0 => Gate::Normal { low, high },

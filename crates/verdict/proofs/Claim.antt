@@ -1,13 +1,14 @@
--- Demand 3: the one claim about the defined verdict, of code whose elements are bytes. Assumes nothing.
+-- Demand 3: the one claim about the defined verdict, of code whose elements are bytes; and its number. Assumes nothing.
 use Prim.Native.Nat.{ℕ, suc, _<_, _^_}
 use mathlib.Core.Path.{_≡_, refl}
-use mathlib.Core.Bool.{true}
+use mathlib.Core.Bool.{Bool, true, false, cond, not}
 use mathlib.Core.List.{List}
 use native.Mathlib.Omega.{arith}
 use lib.ListN.{getD}
 use Rattle.families.specs.Family.{codeSize}
 use Rattle.isa.proofs.Tests.{both-left, cond-elim}
-use Rattle.verdict.specs.Auditor.{knowNothing, verdictIn, auditOf}
+use Rattle.refusals.specs.declared.refusals.Fault.{Fault}
+use Rattle.verdict.specs.Auditor.{verdictNumber, faultAt, knowNothing, verdictIn, auditOf, auditNumber}
 use Rattle.verdict.specs.Demand3.{VerdictMeans, Demand3}
 use Rattle.script.specs.Input.{scriptFits, rangesFit, inputFits}
 use Rattle.run.specs.Run.{begun}
@@ -52,6 +53,14 @@ module _ (x : Script) (entry : ℕ) (fit : Auditable x entry) (fits-so : scriptF
       let w : Walked x entry knowNothing (verdictIn (codeSize (x .family)) (x .family) (x .code) (x .marks) (x .ranges) entry knowNothing)
       = audit-walks x (fit .bytes) (codeSize (x .family)) entry knowNothing (omega arith) in
       ended (w .walk) (w .ends)
+
+number-of : (fits : Bool) (v : Verdict) → verdictNumber (cond fits v (faultAt Fault.Input 0)) ≡ cond (not fits) 9 (verdictNumber v)
+number-of true v = refl
+number-of false v = refl
+
+pub audit-numbered : (family : ℕ) (code marks : List ℕ) (entry : ℕ) (ranges : List ℕ) → verdictNumber (auditOf family code marks entry ranges) ≡ auditNumber family code marks entry ranges
+unfolding auditOf auditNumber
+audit-numbered family code marks entry ranges = number-of (inputFits family code marks entry ranges) (verdictIn (codeSize family) family code marks ranges entry knowNothing)
 
 pub demand3 : (family : ℕ) (code marks : List ℕ) (entry : ℕ) (ranges : List ℕ) → ((i : ℕ) → getD code i 0 < 2 ^ 8)
     → Demand3 family code marks entry ranges (auditOf family code marks entry ranges)

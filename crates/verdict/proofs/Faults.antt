@@ -12,9 +12,9 @@ use Rattle.families.specs.Family.{knownFamily, pausesMemory}
 use Rattle.isa.specs.declared.reader.Decoded.{Decoded}
 use Rattle.refusals.specs.declared.refusals.Unreadable.{Unreadable}
 use Rattle.fetch.proofs.Places.{fetch-lies}
-use Rattle.log.specs.Ewait.{ewaitOf, OnReading}
-use Rattle.log.specs.declared.ewait.Released.{Released}
-use Rattle.log.proofs.EwaitLaws.{ewait-on-reading}
+use Rattle.ewaits.specs.Ewait.{ewaitOf, OnReading}
+use Rattle.ewaits.specs.declared.ewait.Released.{Released}
+use Rattle.ewaits.proofs.EwaitLaws.{ewait-on-reading}
 use Rattle.actions.specs.Action.{mergeOf}
 use Rattle.flags.specs.Flags.{pausedOf}
 use Rattle.state.specs.Slot.{isRunning, slotOf}

@@ -6,13 +6,13 @@ use mathlib.Core.List.{List}
 use native.Mathlib.Omega.{arith}
 use lib.ListN.{length}
 use borrow.Author.Tests.{eqb-true, eqb-false}
-use Rattle.log.specs.Ewait.{ewaitOf}
+use Rattle.ewaits.specs.Ewait.{ewaitOf}
 use Rattle.log.specs.Validity.{validPlace}
-use Rattle.log.specs.Wait.{waitOf}
-use Rattle.log.specs.declared.ewait.Released.{Released}
+use Rattle.waits.specs.Wait.{waitOf}
+use Rattle.ewaits.specs.declared.ewait.Released.{Released}
 use Rattle.log.specs.declared.place.Place.{Place}
-use Rattle.log.proofs.LeftLaws.{row-within}
-use Rattle.log.proofs.WaitLaws.{cut-at-end}
+use Rattle.log.proofs.ValidLaws.{row-within}
+use Rattle.waits.proofs.WaitLaws.{cut-at-end}
 use Rattle.turn.specs.Time.{elapsedOf, afterEwait}
 use Rattle.turn.specs.Turn.{modeAfter, effectOf}
 use Rattle.actions.specs.declared.actions.Action.{Action}

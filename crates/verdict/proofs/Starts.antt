@@ -13,7 +13,7 @@ use Rattle.fetch.specs.Fetch.{fetchOf}
 use Rattle.fetch.proofs.FetchLaws.{same-fetch}
 use Rattle.fetch.proofs.Places.{size-small}
 use Rattle.log.specs.Validity.{validLog}
-use Rattle.log.proofs.LeftLaws.{valid-row-start}
+use Rattle.log.proofs.ValidLaws.{valid-row-start}
 use Rattle.flags.specs.Flags.{overrides1}
 use Rattle.state.specs.Slot.{slotOf}
 use Rattle.state.specs.declared.slots.SlotName.{SlotName}

@@ -9,7 +9,7 @@ use Rattle.isa.specs.Opcode.{opcodeAt}
 use Rattle.isa.specs.Reader.{decodeOf}
 use Rattle.isa.specs.Wait.{waitClocks}
 use Rattle.fetch.specs.Fetch.{allMarked, fetchOf}
-use Rattle.log.specs.Ewait.{hasReading, searchIn}
+use Rattle.ewaits.specs.Ewait.{hasReading, searchIn}
 use Rattle.log.specs.Validity.{validLog, validPlace}
 use Rattle.machine.specs.Step.{advanceOf, stepOf}
 use Rattle.turn.specs.Turn.{performOf}

@@ -10,12 +10,12 @@ use borrow.Author.Tests.{ltb-true, le-leb, eq-eqb}
 use Rattle.families.specs.Family.{codeSize}
 use Rattle.isa.proofs.Tests.{both-left, both-right}
 use Rattle.fetch.proofs.Places.{size-small}
-use Rattle.log.specs.Ewait.{hasReading, searchFrom, in64}
+use Rattle.ewaits.specs.Ewait.{hasReading, searchFrom, in64}
 use Rattle.log.specs.Validity.{rowsInRange, validLog}
-use Rattle.log.specs.declared.ewait.Released.{Released}
+use Rattle.ewaits.specs.declared.ewait.Released.{Released}
 use Rattle.log.specs.declared.place.Place.{Place}
-use Rattle.log.proofs.EwaitLaws.{FoundBy, search-finds}
-use Rattle.log.proofs.WaitLaws.{wait-in}
+use Rattle.ewaits.proofs.EwaitLaws.{FoundBy, search-finds}
+use Rattle.waits.proofs.WaitLaws.{wait-in}
 use Rattle.turn.specs.Time.{afterEwait, elapsedOf}
 use Rattle.actions.specs.declared.actions.Action.{Action}
 use Rattle.state.specs.declared.slots.SlotName.{SlotName}

@@ -1,6 +1,6 @@
 -- What the auditor says (01, "What the auditor says").
 use Prim.Native.Nat.{ℕ, zero, suc, _+_}
-use mathlib.Core.Bool.{Bool, true, false, cond, _&&_}
+use mathlib.Core.Bool.{Bool, true, false, cond, not, _&&_}
 use mathlib.Core.List.{List}
 use lib.Dec.{ltb, eqb}
 use Rattle.refusals.specs.Number.{faultNumber}
@@ -150,3 +150,8 @@ verdictIn (suc left) family code marks ranges at k = elim (fetchOf family code m
 unfoldable pub auditOf : ℕ → List ℕ → List ℕ → ℕ → List ℕ → Verdict
 auditOf family code marks entry ranges =
     cond (inputFits family code marks entry ranges) (verdictIn (codeSize family) family code marks ranges entry knowNothing) (faultAt Fault.Input 0)
+
+-- the number that the verdict must have: 9 where its row says, tested first, and else what the walk comes to, 0 for a pass
+unfoldable pub auditNumber : ℕ → List ℕ → List ℕ → ℕ → List ℕ → ℕ
+auditNumber family code marks entry ranges =
+    cond (not (inputFits family code marks entry ranges)) 9 (verdictNumber (verdictIn (codeSize family) family code marks ranges entry knowNothing))

@@ -1,15 +1,15 @@
 -- The answer is the defined verdict, and demand 3 holds of that. Assumes nothing.
 use denote.Ref.{now}
 use Prim.Native.Nat.{ℕ}
-use mathlib.Core.Path.{_≡_, sym, subst, _∙_}
+use mathlib.Core.Path.{_≡_, sym, ap, subst, _∙_}
 use mathlib.Core.Bool.{Bool, true, _&&_}
 use borrow.Author.Needs.{needs}
 use borrow.Author.Tests.{not-true, not-false}
-use Rattle.verdict.specs.Auditor.{auditOf}
+use Rattle.verdict.specs.Auditor.{verdictNumber, auditOf}
 use Rattle.verdict.specs.Demand3.{Demand3}
 use Rattle.audit.specs.Promises.{Audits}
 use Rattle.verdict.specs.declared.verdicts.Verdict.{Verdict}
-use Rattle.verdict.proofs.Claim.{demand3}
+use Rattle.verdict.proofs.Claim.{audit-numbered, demand3}
 use Rattle.audit.proofs.auditor.audit.Statement.{statement}
 use Rattle.audit.proofs.auditor.audit.Tie as tie
 
@@ -20,6 +20,7 @@ audits c e =
     let a = c .before .args in
     record {
       answered = e;
+      numbered = ap verdictNumber e ∙ audit-numbered (a .family) (now (a .code)) (now (a .marks)) (a .entry) (now (a .ranges));
       demand3 = subst (Demand3 (a .family) (now (a .code)) (now (a .marks)) (a .entry) (now (a .ranges))) (sym e)
           (demand3 (a .family) (now (a .code)) (now (a .marks)) (a .entry) (now (a .ranges)) (λ (i : ℕ). c .shared-slice-known .given i .fits));
     }

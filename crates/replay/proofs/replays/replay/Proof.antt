@@ -8,16 +8,16 @@ use native.Mathlib.Omega.{arith}
 use lib.ListN.{length}
 use borrow.Author.Needs.{needs}
 use borrow.Author.Tests.{le-leb, lt-leb, not-true, not-false}
-use Rattle.log.specs.Left.{leftOf}
+use Rattle.waits.specs.Left.{leftOf}
 use Rattle.log.specs.Validity.{validLog}
-use Rattle.log.proofs.LeftLaws.{left-fits}
+use Rattle.waits.proofs.LeftLaws.{left-fits}
 use Rattle.state.specs.declared.slots.SlotName.{SlotName}
 use Rattle.replay.specs.Progress.{progressOf, toldAt}
-use Rattle.run.specs.Replay.{toldOf, replayOf, replayedRun, lentAfter, EndsRight, Replays}
+use Rattle.run.specs.Replay.{toldOf, answerNumber, replayOf, replayedRun, lentAfter, EndsRight, Replays}
 use Rattle.run.specs.Run.{Run}
 use Rattle.replay.specs.declared.replays.Progress.{Progress}
 use Rattle.run.specs.declared.answers.ReplayAnswer.{ReplayAnswer}
-use Rattle.run.proofs.ReplayEnds.{replay-ends-right}
+use Rattle.run.proofs.ReplayEnds.{replay-ends-right, replay-numbered}
 use Rattle.replay.proofs.replays.replay.Statement.{statement}
 use Rattle.replay.proofs.replays.replay.Tie as tie
 
@@ -41,6 +41,7 @@ module _ (c : tie.Start) where
       let a = c .args in
       record {
         answered = e;
+        numbered = ap answerNumber e ∙ replay-numbered (a .family) (now (a .code)) (now (a .marks)) (a .entry) (a .addr .0) (a .«data») (a .flags-0) (a .flags-1) (a .enable) (now (a .clocks)) (now (a .known)) (now (a .values)) (length (now (a .writes)));
         lent = l;
         ends = subst (EndsRight (a .family) (now (a .code)) (now (a .marks)) (a .entry) (a .addr .0) (a .«data») (a .flags-0) (a .flags-1) (a .enable) (now (a .clocks)) (now (a .known)) (now (a .values))) (sym e)
             (replay-ends-right (a .family) (now (a .code)) (now (a .marks)) (a .entry) (a .addr .0) (a .«data») (a .flags-0) (a .flags-1) (a .enable) (now (a .clocks)) (now (a .known)) (now (a .values)) (length (now (a .writes))));

@@ -1,6 +1,6 @@
 -- `probe::Calibration::volts` meets its contract. Assumes nothing.
 use mathlib.Core.Path.{refl}
-use Rattle.probe.proofs.Patterns.{calibrates}
+use Rattle.probe.proofs.Volts.{calibrates}
 use Rattle.probe.proofs.calibration.Calibration.volts.Statement.{statement}
 use Rattle.probe.proofs.calibration.Calibration.volts.Tie as tie
 

@@ -1,0 +1,86 @@
+-- What a valid log is, row by row, and which places lie in it. Assumes nothing.
+use Prim.Native.Nat.{ℕ, zero, suc, _^_, _<_, _≤_}
+use mathlib.Core.Path.{_≡_, refl}
+use mathlib.Core.Bool.{true, _&&_, and-eq-true-iff}
+use mathlib.Core.List.{List, [], _∷_}
+use native.Mathlib.Decide.{decLt}
+use native.Mathlib.Omega.{arith}
+use lib.Dec.{leb, eqb}
+use lib.ListN.{length, getD, List·getD-eq-default}
+use borrow.Author.Tests.{leb-true, eqb-true, lt-ltb, le-ltb, eq-eqb}
+use Rattle.log.specs.Validity.{rowsInRange, validLog, validPlace}
+use Rattle.log.specs.declared.place.Place.{Place}
+
+-- a row has 1 to 2^48 clocks
+abbrev InRange : ℕ → Type 0
+InRange c = (1 ≤ c) × (c ≤ 2 ^ 48)
+
+row-in-range : (clocks : List ℕ) → rowsInRange clocks ≡ true → (row : ℕ) → row < length clocks → InRange (getD clocks row 0)
+row-in-range [] e row h = absurd (omega arith)
+row-in-range (c ∷ clocks) e zero h =
+    let here = and-eq-true-iff (leb 1 c) (leb c (2 ^ 48)) .0 (and-eq-true-iff (leb 1 c && leb c (2 ^ 48)) (rowsInRange clocks) .0 e .0) in
+    (leb-true 1 c (here .0), leb-true c (2 ^ 48) (here .1))
+row-in-range (c ∷ clocks) e (suc row) h = row-in-range clocks (and-eq-true-iff (leb 1 c && leb c (2 ^ 48)) (rowsInRange clocks) .0 e .1) row (omega arith)
+
+record Rows (clocks known values : List ℕ) : Type 0 where
+  few : length clocks ≤ 1024
+  known-rows : length known ≡ length clocks
+  value-rows : length values ≡ length clocks
+  in-range : (row : ℕ) → row < length clocks → (1 ≤ getD clocks row 0) × (getD clocks row 0 ≤ 2 ^ 48)
+
+valid-rows : (clocks known values : List ℕ) → validLog clocks known values ≡ true → Rows clocks known values
+unfolding validLog
+valid-rows clocks known values e =
+    let one = and-eq-true-iff (leb (length clocks) 1024) _ .0 e in
+    let two = and-eq-true-iff (eqb (length known) (length clocks)) _ .0 (one .1) in
+    let three = and-eq-true-iff (eqb (length values) (length clocks)) (rowsInRange clocks) .0 (two .1) in
+    record {
+      few = leb-true (length clocks) 1024 (one .0);
+      known-rows = eqb-true (length known) (length clocks) (two .0);
+      value-rows = eqb-true (length values) (length clocks) (three .0);
+      in-range = row-in-range clocks (three .1);
+    }
+
+module _ (clocks known values : List ℕ) (valid : validLog clocks known values ≡ true) where
+  pub rows-most : length clocks ≤ 1024
+  rows-most = valid-rows clocks known values valid .few
+
+  pub row-most : (row : ℕ) → getD clocks row 0 ≤ 2 ^ 48
+  row-most row =
+      elim (decLt row (length clocks)) as (λ _. getD clocks row 0 ≤ 2 ^ 48) [
+        | yes h ↦ valid-rows clocks known values valid .in-range row h .1
+        | no h ↦ rw (List·getD-eq-default clocks 0 {n = row} (omega arith)) (omega arith)
+      ]
+
+-- ---- the places that lie in a log
+
+module _ (clocks : List ℕ) where
+  pub valid-in-row : (row used : ℕ) → row < length clocks → used < getD clocks row 0 → validPlace clocks (record { row = row; used = used }) ≡ true
+  unfolding validPlace
+  valid-in-row row used h l = rw (lt-ltb row (length clocks) h, lt-ltb used (getD clocks row 0) l)
+
+  pub valid-at-end : validPlace clocks (record { row = length clocks; used = 0 }) ≡ true
+  unfolding validPlace
+  valid-at-end = rw (le-ltb (length clocks) (length clocks) (omega arith), eq-eqb (length clocks) (length clocks) refl)
+
+  module _ (p : Place) (v : validPlace clocks p ≡ true) where
+    none-used-at-end : length clocks ≤ p .row → (p .row ≡ length clocks) × (p .used ≡ 0)
+    unfolding validPlace
+    none-used-at-end h =
+        let t = and-eq-true-iff (eqb (p .row) (length clocks)) (eqb (p .used) 0) .0 (rw (le-ltb (p .row) (length clocks) h) at v) in
+        (eqb-true (p .row) (length clocks) (t .0), eqb-true (p .used) 0 (t .1))
+
+    pub row-within : p .row ≤ length clocks
+    row-within =
+        elim (decLt (p .row) (length clocks)) as (λ _. p .row ≤ length clocks) [
+          | yes h ↦ omega arith
+          | no h ↦ omega (arith, none-used-at-end (omega arith) .0)
+        ]
+
+-- a row's start lies in a valid log, and so does the end
+pub valid-row-start : (clocks known values : List ℕ) → validLog clocks known values ≡ true → (row : ℕ) → row ≤ length clocks → validPlace clocks (record { row = row; used = 0 }) ≡ true
+valid-row-start clocks known values valid row h =
+    elim (decLt row (length clocks)) as (λ _. validPlace clocks (record { row = row; used = 0 }) ≡ true) [
+      | yes l ↦ valid-in-row clocks row 0 l (omega (arith, valid-rows clocks known values valid .in-range row l .0))
+      | no l ↦ let e : row ≡ length clocks = omega arith in rw e (valid-at-end clocks)
+    ]
