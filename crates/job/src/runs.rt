@@ -13,9 +13,9 @@ ghost use Rattle.job.specs.Script.{executingSlot, verdictOf, modeOf, sta
 ghost use Rattle.job.specs.Inside.{RunsJob};
 use audit::Verdict;
 use flags::Flags;
-use host::Reading;
 use isa::MmioAddress;
 use records::Job;
+use registers::Reading;
 use replay::Ending;
 use replay::ReplayAnswer;
 use replay::Replayed;
