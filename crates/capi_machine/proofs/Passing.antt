@@ -7,9 +7,9 @@ use Rattle.log.specs.declared.place.Place.{Place}
 use Rattle.state.specs.declared.slots.Mode.{Mode}
 use Rattle.state.specs.declared.slots.SlotName.{SlotName}
 use Rattle.state.specs.declared.state.State.{State}
-use Rattle.host.specs.Promises.{Begins, HostWrites, HostReads}
-use Rattle.host.specs.declared.access.Access.{Access}
-use Rattle.host.specs.declared.access.Reading.{Reading}
+use Rattle.registers.specs.Promises.{Begins, HostWrites, HostReads}
+use Rattle.registers.specs.declared.access.Access.{Access}
+use Rattle.registers.specs.declared.access.Reading.{Reading}
 use Rattle.machine.specs.Promises.{Steps}
 use Rattle.machine.specs.declared.steps.Stepped.{Stepped}
 use Rattle.capi_machine.specs.Images.{modeNumber, modeOf, slotFrom, slotImage, stateFrom, stateImage}

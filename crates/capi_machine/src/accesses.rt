@@ -4,10 +4,10 @@ ghost use Rattle.capi_machine.specs.Accesses.{accessReply, readReply, Hw
 use crate::images::StateImage;
 use crate::images::state_from;
 use crate::images::state_image;
-use host::Access;
-use host::Outcome;
-use host::Reading;
 use isa::MmioAddress;
+use registers::Access;
+use registers::Outcome;
+use registers::Reading;
 
 #[repr(C)]
 pub struct AccessReply {

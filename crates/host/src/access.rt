@@ -1,16 +1,15 @@
 // A fresh state, and the host's writes and reads.
 ghost use mathlib.Core.Path.{_≡_};
-ghost use Rattle.host.specs.Access.{blankState, withControl, withEntries, withFlags, isAbort, isTaken, afterWrite, writeOf, controlWord, readingOf};
-ghost use Rattle.host.specs.Access.{done as Access·done, refused as Access·refused};
-ghost use Rattle.host.specs.Register.{InRoom};
-ghost use Rattle.host.specs.Promises.{Begins, HostWrites, HostReads};
+ghost use Rattle.registers.specs.Access.{blankState, withControl, withEntries, withFlags, isAbort, isTaken, afterWrite, writeOf, controlWord, readingOf};
+ghost use Rattle.registers.specs.Access.{done as Access·done, refused as Access·refused};
+ghost use Rattle.registers.specs.Register.{InRoom};
+ghost use Rattle.registers.specs.Promises.{Begins, HostWrites, HostReads};
+use crate::addresses::TRIGGER;
+use crate::addresses::is_writable;
+use crate::addresses::register_at;
 use crate::code::after_upload;
 use crate::code::code_word;
 use crate::entries::entry_bits;
-use crate::registers::Register;
-use crate::registers::TRIGGER;
-use crate::registers::is_writable;
-use crate::registers::register_at;
 use crate::status::bit_if;
 use crate::status::status_word;
 use crate::triggers::after_trigger;
@@ -19,26 +18,14 @@ use flags::Flags;
 use isa::CodeAddress;
 use isa::MmioAddress;
 use refusals::Inaccessible;
+use registers::Access;
+use registers::Outcome;
+use registers::Reading;
+use registers::Register;
 use state::Mode;
 use state::Slot;
 use state::State;
 use state::some_slot_executes;
-
-pub enum Outcome {
-    Done,
-    Refused(Inaccessible),
-}
-
-// The state after an access, with its outcome.
-pub struct Access {
-    pub state: State,
-    pub outcome: Outcome,
-}
-
-pub enum Reading {
-    Word(u32),
-    Refused(Inaccessible),
-}
 
 fn done(state: State) -> Access
     ensures { λ r. ⌜ r ≡ Access·done state ⌝ }

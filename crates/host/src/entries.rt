@@ -1,8 +1,8 @@
 // The four entry points.
 ghost use mathlib.Core.Path.{_≡_};
 ghost use Prim.Native.Nat.{_<_};
-ghost use Rattle.host.specs.Entry.{entryBits, entryPoint};
-use crate::registers::is_high;
+ghost use Rattle.registers.specs.Entry.{entryBits, entryPoint};
+use crate::addresses::is_high;
 
 // The bits of ENTRY_POINT_HIGH that have a meaning.
 pub(crate) fn entry_bits(word: u32) -> u32

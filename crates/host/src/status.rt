@@ -1,8 +1,8 @@
 // The register STATUS.
 ghost use mathlib.Core.Path.{_≡_};
 ghost use Prim.Native.Nat.{_≤_, _<_};
-ghost use Rattle.host.specs.Status.{bitIf, isHung, showsHang, showsBit8, slotStatus, statusWord};
-use crate::registers::is_high;
+ghost use Rattle.registers.specs.Status.{bitIf, isHung, showsHang, showsBit8, slotStatus, statusWord};
+use crate::addresses::is_high;
 use state::Mode;
 use state::Slot;
 use state::SlotName;

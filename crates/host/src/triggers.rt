@@ -1,7 +1,7 @@
 // Starting and aborting a script: what a word written to TRIGGER does.
 ghost use mathlib.Core.Path.{_≡_};
-ghost use Rattle.host.specs.Trigger.{isStart, slotNamed, startedAt, afterTrigger};
-ghost use Rattle.host.specs.Trigger.{aborted as Trigger·aborted};
+ghost use Rattle.registers.specs.Trigger.{isStart, slotNamed, startedAt, afterTrigger};
+ghost use Rattle.registers.specs.Trigger.{aborted as Trigger·aborted};
 use crate::entries::entry_point;
 use isa::CodeAddress;
 use state::Mode;

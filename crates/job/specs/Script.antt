@@ -10,9 +10,9 @@ use Rattle.state.specs.declared.slots.Mode.{Mode}
 use Rattle.state.specs.declared.slots.Slot.{Slot}
 use Rattle.state.specs.declared.slots.SlotName.{SlotName}
 use Rattle.state.specs.declared.state.State.{State}
-use Rattle.host.specs.Access.{readOf}
+use Rattle.registers.specs.Access.{readOf}
 use Rattle.state.specs.Execution.{executes}
-use Rattle.host.specs.declared.access.Reading.{Reading}
+use Rattle.registers.specs.declared.access.Reading.{Reading}
 use Rattle.verdict.specs.Auditor.{auditOf}
 use Rattle.run.specs.Replay.{toldOf, replayedRun}
 use Rattle.run.specs.Run.{Run}

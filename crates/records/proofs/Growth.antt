@@ -10,7 +10,7 @@ use lib.ListN.{length, take, set, length-set, length-replicate}
 use lib.Seq.{take-suc-set, length-take-le}
 use borrow.Author.Tests.{eqb-true, eq-eqb, le-leb, not-false}
 use Rattle.isa.proofs.Tests.{cond-elim, both-left, both-right}
-use Rattle.host.specs.Access.{freshOf, writeOf}
+use Rattle.registers.specs.Access.{freshOf, writeOf}
 use Rattle.log.specs.Validity.{clocksInRange, rowsInRange, validLog}
 use Rattle.state.specs.declared.state.State.{State}
 use Rattle.records.specs.Inside.{HasRoom}

@@ -6,7 +6,7 @@ use mathlib.Core.List.{List}
 use lib.Dec.{eqb}
 use lib.ListN.{set}
 use borrow.Author.Tests.{ne-eqb}
-use Rattle.host.specs.Access.{freshOf, writeOf}
+use Rattle.registers.specs.Access.{freshOf, writeOf}
 use Rattle.state.specs.declared.state.State.{State}
 use Rattle.records.specs.Inside.{stateAfter}
 use Rattle.records.specs.Job.{withState, withRow, withContent}

@@ -5,7 +5,7 @@ use mathlib.Core.Bool.{Bool, cond}
 use mathlib.Core.List.{List}
 use lib.Dec.{eqb}
 use lib.ListN.{length}
-use Rattle.host.specs.Access.{freshOf, writeOf}
+use Rattle.registers.specs.Access.{freshOf, writeOf}
 use Rattle.state.specs.declared.state.State.{State}
 use Rattle.records.specs.Job.{countOf, emptyJob}
 use Rattle.records.specs.Reader.{readIn, Sound, Started}

@@ -7,9 +7,9 @@ use lib.Dec.{leb, ltb, eqb}
 use lib.ListN.{length}
 use Rattle.families.specs.Family.{knownFamily}
 use Rattle.log.specs.Validity.{clocksInRange}
-use Rattle.host.specs.Access.{writeOf}
+use Rattle.registers.specs.Access.{writeOf}
 use Rattle.state.specs.Execution.{someSlotExecutes}
-use Rattle.host.specs.Promises.{outcomeNumber}
+use Rattle.registers.specs.Promises.{outcomeNumber}
 use Rattle.state.specs.declared.state.State.{State}
 use Rattle.records.specs.Job.{countOf}
 use Rattle.records.specs.Records.{family, range, hostWrite, row, end, kindOf, isOutOfOrder}

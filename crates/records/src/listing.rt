@@ -1,6 +1,6 @@
 // Why a record is refused.
 ghost use mathlib.Core.Path.{_≡_};
-ghost use Rattle.host.specs.Promises.{outcomeNumber};
+ghost use Rattle.registers.specs.Promises.{outcomeNumber};
 ghost use Rattle.records.specs.Refusals.{isUnknown, isCutShort, isTooMany, isBadFamily, isBadRange, writeNumber, isBadRow, hasBytesAfter, endsIdle};
 ghost use Rattle.records.specs.Inside.{Refuses};
 use crate::contents::Counts;
@@ -15,8 +15,8 @@ use crate::kinds::kind_of;
 use crate::words::byte_at;
 use crate::words::long_at;
 use crate::words::word_at;
-use host::Outcome;
 use isa::MmioAddress;
+use registers::Outcome;
 use state::State;
 
 // An unknown kind, or the end of input.

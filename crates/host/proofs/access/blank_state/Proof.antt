@@ -1,5 +1,5 @@
 -- Assumes nothing.
-use Rattle.host.specs.Access.{blankState}
+use Rattle.registers.specs.Access.{blankState}
 use mathlib.Core.Path.{refl}
 use Rattle.host.proofs.access.blank_state.Statement.{statement}
 use Rattle.host.proofs.access.blank_state.Tie as tie

@@ -1,6 +1,6 @@
 -- Assumes nothing.
 use mathlib.Core.Path.{sym, _∙_}
-use Rattle.host.proofs.AccessLaws.{begins}
+use Rattle.registers.proofs.AccessLaws.{begins}
 use borrow.Author.Needs.{needs}
 use Rattle.host.proofs.access.fresh_state.Statement.{statement}
 use Rattle.host.proofs.access.fresh_state.Tie as tie

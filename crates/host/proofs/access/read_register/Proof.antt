@@ -1,9 +1,9 @@
 -- Assumes nothing.
 use mathlib.Core.Path.{sym, _∙_}
 use borrow.Author.Tests.{not-true, not-false}
-use Rattle.host.specs.Access.{readOf}
-use Rattle.host.proofs.RegisterLaws.{register-in-room}
-use Rattle.host.proofs.AccessLaws.{host-reads}
+use Rattle.registers.specs.Access.{readOf}
+use Rattle.registers.proofs.RegisterLaws.{register-in-room}
+use Rattle.registers.proofs.AccessLaws.{host-reads}
 use borrow.Author.Needs.{needs}
 use Rattle.host.proofs.access.read_register.Statement.{statement}
 use Rattle.host.proofs.access.read_register.Tie as tie

@@ -1,8 +1,8 @@
 -- Assumes nothing.
 use mathlib.Core.Path.{sym, _∙_}
 use borrow.Author.Tests.{not-true, not-false}
-use Rattle.host.specs.Access.{writeOf}
-use Rattle.host.proofs.RegisterLaws.{register-in-room}
+use Rattle.registers.specs.Access.{writeOf}
+use Rattle.registers.proofs.RegisterLaws.{register-in-room}
 use borrow.Author.Needs.{needs}
 use Rattle.host.proofs.access.tested_write.Statement.{statement}
 use Rattle.host.proofs.access.tested_write.Tie as tie

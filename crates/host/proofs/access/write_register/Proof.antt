@@ -1,5 +1,5 @@
 -- Assumes nothing.
-use Rattle.host.proofs.AccessLaws.{host-writes}
+use Rattle.registers.proofs.AccessLaws.{host-writes}
 use borrow.Author.Needs.{needs}
 use Rattle.host.proofs.access.write_register.Statement.{statement}
 use Rattle.host.proofs.access.write_register.Tie as tie

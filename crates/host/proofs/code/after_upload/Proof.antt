@@ -1,5 +1,5 @@
 -- Assumes nothing.
-use Rattle.host.specs.Code.{afterUpload}
+use Rattle.registers.specs.Code.{afterUpload}
 use native.Mathlib.Numerals.{unary-clauses}
 use borrow.Author.Needs.{needs}
 use Rattle.host.proofs.code.after_upload.Statement.{statement}

@@ -1,6 +1,6 @@
 -- Assumes nothing.
 use borrow.Author.Tests.{eq-eqb, ne-eqb}
-use Rattle.host.specs.Code.{uploadedByte}
+use Rattle.registers.specs.Code.{uploadedByte}
 use borrow.Author.Needs.{needs}
 use Rattle.host.proofs.code.uploaded_byte.Statement.{statement}
 use Rattle.host.proofs.code.uploaded_byte.Tie as tie

@@ -1,6 +1,6 @@
 -- Assumes nothing.
 use mathlib.Core.Path.{sym, _∙_}
-use Rattle.host.specs.Entry.{entryPoint}
+use Rattle.registers.specs.Entry.{entryPoint}
 use borrow.Author.Needs.{needs}
 use Rattle.host.proofs.entries.entry_point.Statement.{statement}
 use Rattle.host.proofs.entries.entry_point.Tie as tie

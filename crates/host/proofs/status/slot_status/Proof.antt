@@ -1,5 +1,5 @@
 -- Assumes nothing.
-use Rattle.host.specs.Status.{slotStatus}
+use Rattle.registers.specs.Status.{slotStatus}
 use native.Mathlib.Omega.{arith}
 use borrow.Author.Needs.{needs}
 use Rattle.host.proofs.status.slot_status.Statement.{statement}

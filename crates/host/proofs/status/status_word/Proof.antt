@@ -1,6 +1,6 @@
 -- Assumes nothing.
 use mathlib.Core.Path.{sym, _∙_}
-use Rattle.host.specs.Status.{statusWord}
+use Rattle.registers.specs.Status.{statusWord}
 use borrow.Author.Needs.{needs}
 use Rattle.host.proofs.status.status_word.Statement.{statement}
 use Rattle.host.proofs.status.status_word.Tie as tie

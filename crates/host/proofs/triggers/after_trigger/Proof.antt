@@ -1,6 +1,6 @@
 -- Assumes nothing.
 use mathlib.Core.Path.{sym, _∙_}
-use Rattle.host.specs.Trigger.{afterTrigger}
+use Rattle.registers.specs.Trigger.{afterTrigger}
 use borrow.Author.Needs.{needs}
 use Rattle.host.proofs.triggers.after_trigger.Statement.{statement}
 use Rattle.host.proofs.triggers.after_trigger.Tie as tie

@@ -1,6 +1,6 @@
 -- Assumes nothing.
 use mathlib.Core.Path.{ap}
-use Rattle.host.specs.declared.access.Access.{Access}
+use Rattle.registers.specs.declared.access.Access.{Access}
 use Rattle.records.specs.Job.{emptyJob}
 use borrow.Author.Needs.{needs}
 use Rattle.records.proofs.contents.empty_job.Statement.{statement}

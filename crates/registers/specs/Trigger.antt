@@ -10,7 +10,7 @@ use Rattle.state.specs.declared.slots.Mode.{Mode}
 use Rattle.state.specs.declared.slots.Slot.{Slot}
 use Rattle.state.specs.declared.slots.SlotName.{SlotName}
 use Rattle.state.specs.declared.state.State.{State}
-use Rattle.host.specs.Entry.{entryPoint}
+use Rattle.registers.specs.Entry.{entryPoint}
 
 -- bit 0 starts, and aborts where it is clear
 abbrev pub isStart : ℕ → Bool

@@ -1,10 +1,10 @@
 -- Assumes nothing.
 use borrow.Author.Tests.{ne-eqb}
 use mathlib.Core.Path.{_∙_}
-use Rattle.host.specs.Register.{registerAt}
+use Rattle.registers.specs.Register.{registerAt}
 use borrow.Author.Needs.{needs}
-use Rattle.host.proofs.registers.register_at.Statement.{statement}
-use Rattle.host.proofs.registers.register_at.Tie as tie
+use Rattle.host.proofs.addresses.register_at.Statement.{statement}
+use Rattle.host.proofs.addresses.register_at.Tie as tie
 
 returns : tie.Need-returns
 unfolding registerAt

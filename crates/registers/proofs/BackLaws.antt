@@ -14,15 +14,15 @@ use Rattle.isa.specs.declared.addresses.CodeAddress.{CodeAddress}
 use Rattle.flags.specs.Flags.{flagsWord0, flagsWord1, flagsFromWords}
 use Rattle.flags.specs.declared.flags.Flags.{Flags}
 use Rattle.state.specs.declared.state.State.{State}
-use Rattle.host.specs.Access.{afterWrite, controlWord, readingOf}
-use Rattle.host.specs.Code.{fourMarks, afterUpload, uploadedByte, codeWord}
-use Rattle.host.specs.Entry.{entryBits}
-use Rattle.host.specs.Promises.{isReadable, keptBits}
-use Rattle.host.specs.Register.{InRoom, isWritable}
-use Rattle.host.specs.Status.{bitIf}
-use Rattle.host.specs.declared.access.Reading.{Reading}
+use Rattle.registers.specs.Access.{afterWrite, controlWord, readingOf}
+use Rattle.registers.specs.Code.{fourMarks, afterUpload, uploadedByte, codeWord}
+use Rattle.registers.specs.Entry.{entryBits}
+use Rattle.registers.specs.Promises.{isReadable, keptBits}
+use Rattle.registers.specs.Register.{InRoom, isWritable}
+use Rattle.registers.specs.Status.{bitIf}
+use Rattle.registers.specs.declared.access.Reading.{Reading}
 use Rattle.refusals.specs.declared.refusals.Inaccessible.{Inaccessible}
-use Rattle.host.specs.declared.registers.Register.{Register}
+use Rattle.registers.specs.declared.registers.Register.{Register}
 
 never : {A : Type 0} → false ≡ true → A
 never e = let z : _≡_ {A = ℕ} 0 1 = cc in absurd (omega arith)

@@ -1,8 +1,8 @@
 -- Assumes nothing.
 use borrow.Author.Tests.{lt-ltb, le-ltb}
 use mathlib.Core.Logic.{⊎-elim}
-use Rattle.host.proofs.registers.code_in.Statement.{statement}
-use Rattle.host.proofs.registers.code_in.Tie as tie
+use Rattle.host.proofs.addresses.code_in.Statement.{statement}
+use Rattle.host.proofs.addresses.code_in.Tie as tie
 
 returns : tie.Need-returns
 returns c = simp (lt-ltb _ _ (c .before .if1 .taken), c .if2 .taken)

@@ -1,7 +1,7 @@
 -- The entry points (01, "Host registers"; 004, "Script execution").
 use Prim.Native.Nat.{ℕ, _+_, _*_, _/_, _%_, _^_}
 use mathlib.Core.Bool.{cond}
-use Rattle.host.specs.Register.{isHigh}
+use Rattle.registers.specs.Register.{isHigh}
 
 -- ENTRY_POINT_HIGH has a meaning at bits 0, 8, 16 and 24; its other bits read 0
 abbrev pub entryBits : ℕ → ℕ

@@ -1,8 +1,8 @@
 -- Assumes nothing.
 use mathlib.Core.Path.{sym, _∙_}
 use borrow.Author.Needs.{needs}
-use Rattle.host.proofs.registers.if_high.Statement.{statement}
-use Rattle.host.proofs.registers.if_high.Tie as tie
+use Rattle.host.proofs.addresses.if_high.Statement.{statement}
+use Rattle.host.proofs.addresses.if_high.Tie as tie
 
 returns : tie.Need-returns
 returns c = simp (sym (c .before .is-high .ensures) ∙ c .if1 .taken)

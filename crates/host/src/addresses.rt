@@ -1,25 +1,12 @@
 // Which register stands at an address.
 ghost use mathlib.Core.Path.{_≡_};
-ghost use Rattle.host.specs.Register.{isHigh, ifHigh, highWindow, codeIn, codeAt, registerAt, isWritable};
+ghost use Rattle.registers.specs.Register.{isHigh, ifHigh, highWindow, codeIn, codeAt, registerAt, isWritable};
 use isa::CodeAddress;
 use isa::MmioAddress;
+use registers::Register;
 
 // The address of TRIGGER.
 pub(crate) const TRIGGER: u32 = 0x00130c;
-
-pub enum Register {
-    Control,
-    EntryPoint,
-    Status,
-    Trigger,
-    Flags0,
-    Flags1,
-    EntryPointHigh,
-    // four bytes of code RAM, from this place on
-    Code(CodeAddress),
-    Events,
-    Unlisted,
-}
 
 // Family 4 alone has entry points of nine bits, and a window on 512 bytes of code.
 pub(crate) fn is_high(family: u8) -> bool

@@ -12,19 +12,19 @@ use Rattle.state.specs.declared.slots.Mode.{Mode}
 use Rattle.state.specs.declared.slots.Slot.{Slot}
 use Rattle.state.specs.declared.slots.SlotName.{SlotName}
 use Rattle.state.specs.declared.state.State.{State}
-use Rattle.host.specs.Access.{freshOf, afterWrite, isAbort, isTaken, writeOf, readingOf, readOf}
-use Rattle.host.specs.Code.{afterUpload}
+use Rattle.registers.specs.Access.{freshOf, afterWrite, isAbort, isTaken, writeOf, readingOf, readOf}
+use Rattle.registers.specs.Code.{afterUpload}
 use Rattle.state.specs.Execution.{someSlotExecutes}
-use Rattle.host.specs.Promises.{outcomeNumber, readingNumber, freshRefusal, writeRefusal, isReadable, readRefusal, keptBits, Unmoved, Spares, Stops, Begins, HostWrites, HostReads}
-use Rattle.host.specs.Register.{triggerAt, registerAt, isWritable}
-use Rattle.host.specs.Trigger.{isStart, slotNamed, aborted, afterTrigger}
-use Rattle.host.proofs.BackLaws.{Roomy, word-back}
-use Rattle.host.proofs.RegisterLaws.{register-in-room}
-use Rattle.host.specs.declared.access.Access.{Access}
-use Rattle.host.specs.declared.access.Outcome.{Outcome}
-use Rattle.host.specs.declared.access.Reading.{Reading}
+use Rattle.registers.specs.Promises.{outcomeNumber, readingNumber, freshRefusal, writeRefusal, isReadable, readRefusal, keptBits, Unmoved, Spares, Stops, Begins, HostWrites, HostReads}
+use Rattle.registers.specs.Register.{triggerAt, registerAt, isWritable}
+use Rattle.registers.specs.Trigger.{isStart, slotNamed, aborted, afterTrigger}
+use Rattle.registers.proofs.BackLaws.{Roomy, word-back}
+use Rattle.registers.proofs.RegisterLaws.{register-in-room}
+use Rattle.registers.specs.declared.access.Access.{Access}
+use Rattle.registers.specs.declared.access.Outcome.{Outcome}
+use Rattle.registers.specs.declared.access.Reading.{Reading}
 use Rattle.refusals.specs.declared.refusals.Inaccessible.{Inaccessible}
-use Rattle.host.specs.declared.registers.Register.{Register}
+use Rattle.registers.specs.declared.registers.Register.{Register}
 
 pub begins : (family : ℕ) {t : Access} → t ≡ freshOf family → Begins family t
 begins family e = record { answered = e; numbered = subst P (sym e) number }

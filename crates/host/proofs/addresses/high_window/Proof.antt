@@ -1,8 +1,8 @@
 -- Assumes nothing.
 use mathlib.Core.Path.{sym, _∙_}
 use borrow.Author.Needs.{needs}
-use Rattle.host.proofs.registers.high_window.Statement.{statement}
-use Rattle.host.proofs.registers.high_window.Tie as tie
+use Rattle.host.proofs.addresses.high_window.Statement.{statement}
+use Rattle.host.proofs.addresses.high_window.Tie as tie
 
 returns : tie.Need-returns
 returns c = simp (sym (c .before .before .is-high .ensures) ∙ c .before .if1 .taken, c .code-size .ensures)

@@ -5,7 +5,7 @@ use lib.Dec.{ltb, eqb}
 use Rattle.families.specs.Family.{codeSize, within}
 use Rattle.isa.specs.declared.addresses.CodeAddress.{CodeAddress}
 use Rattle.isa.specs.declared.addresses.MmioAddress.{MmioAddress}
-use Rattle.host.specs.declared.registers.Register.{Register}
+use Rattle.registers.specs.declared.registers.Register.{Register}
 
 -- the address of TRIGGER
 abbrev pub triggerAt : ℕ

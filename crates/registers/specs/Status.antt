@@ -9,7 +9,7 @@ use Rattle.state.specs.declared.slots.Mode.{Mode}
 use Rattle.state.specs.declared.slots.Slot.{Slot}
 use Rattle.state.specs.declared.slots.SlotName.{SlotName}
 use Rattle.state.specs.declared.state.State.{State}
-use Rattle.host.specs.Register.{isHigh}
+use Rattle.registers.specs.Register.{isHigh}
 
 -- a bit of this weight, lit or not
 abbrev pub bitIf : Bool → ℕ → ℕ

@@ -8,8 +8,8 @@ use borrow.Author.Tests.{ltb-true, eqb-true}
 use Rattle.families.specs.Family.{byFamily, codeSize, within}
 use Rattle.isa.proofs.Tests.{cond-elim, inside, outside, both-left, both-right}
 use Rattle.isa.specs.declared.addresses.MmioAddress.{MmioAddress}
-use Rattle.host.specs.Register.{isHigh, highWindow, codeIn, codeAt, registerAt, InRoom}
-use Rattle.host.specs.declared.registers.Register.{Register}
+use Rattle.registers.specs.Register.{isHigh, highWindow, codeIn, codeAt, registerAt, InRoom}
+use Rattle.registers.specs.declared.registers.Register.{Register}
 
 module _ (family at : ℕ) where
   pub in-code : 0x001400 ≤ at → at ≤ 0x0014ff → codeIn (codeSize family) (at - 0x001400) ≡ codeAt family at

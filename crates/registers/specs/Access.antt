@@ -13,17 +13,17 @@ use Rattle.state.specs.declared.slots.Mode.{Mode}
 use Rattle.state.specs.declared.slots.Slot.{Slot}
 use Rattle.state.specs.declared.slots.SlotName.{SlotName}
 use Rattle.state.specs.declared.state.State.{State}
-use Rattle.host.specs.Code.{afterUpload, codeWord}
-use Rattle.host.specs.Entry.{entryBits}
+use Rattle.registers.specs.Code.{afterUpload, codeWord}
+use Rattle.registers.specs.Entry.{entryBits}
 use Rattle.state.specs.Execution.{someSlotExecutes}
-use Rattle.host.specs.Register.{triggerAt, registerAt, isWritable}
-use Rattle.host.specs.Status.{bitIf, statusWord}
-use Rattle.host.specs.Trigger.{isStart, afterTrigger}
-use Rattle.host.specs.declared.access.Access.{Access}
-use Rattle.host.specs.declared.access.Outcome.{Outcome}
-use Rattle.host.specs.declared.access.Reading.{Reading}
+use Rattle.registers.specs.Register.{triggerAt, registerAt, isWritable}
+use Rattle.registers.specs.Status.{bitIf, statusWord}
+use Rattle.registers.specs.Trigger.{isStart, afterTrigger}
+use Rattle.registers.specs.declared.access.Access.{Access}
+use Rattle.registers.specs.declared.access.Outcome.{Outcome}
+use Rattle.registers.specs.declared.access.Reading.{Reading}
 use Rattle.refusals.specs.declared.refusals.Inaccessible.{Inaccessible}
-use Rattle.host.specs.declared.registers.Register.{Register}
+use Rattle.registers.specs.declared.registers.Register.{Register}
 
 abbrev pub done : State → Access
 done s = record { state = s; outcome = Outcome.Done }

@@ -1,10 +1,10 @@
 -- Assumes nothing.
-use Rattle.host.proofs.RegisterLaws.{in-code, in-new-code, in-neither}
+use Rattle.registers.proofs.RegisterLaws.{in-code, in-new-code, in-neither}
 use native.Mathlib.Omega.{arith}
 use mathlib.Core.Path.{_∙_}
 use borrow.Author.Needs.{needs}
-use Rattle.host.proofs.registers.code_at.Statement.{statement}
-use Rattle.host.proofs.registers.code_at.Tie as tie
+use Rattle.host.proofs.addresses.code_at.Statement.{statement}
+use Rattle.host.proofs.addresses.code_at.Tie as tie
 
 returns : tie.Need-returns
 returns c = rw (c .before .code-size .ensures) at (c .code-in .ensures) ∙ in-code _ _ (omega arith) (omega arith)

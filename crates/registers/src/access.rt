@@ -1,0 +1,19 @@
+// What the host is answered.
+use refusals::Inaccessible;
+use state::State;
+
+pub enum Outcome {
+    Done,
+    Refused(Inaccessible),
+}
+
+// The state after an access, with its outcome.
+pub struct Access {
+    pub state: State,
+    pub outcome: Outcome,
+}
+
+pub enum Reading {
+    Word(u32),
+    Refused(Inaccessible),
+}

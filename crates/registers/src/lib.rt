@@ -1,0 +1,8 @@
+// The host's registers: where each stands, what a write does and what a read gives. Definitions and their laws alone; host has the calls.
+mod access;
+mod registers;
+
+pub use access::Access;
+pub use access::Outcome;
+pub use access::Reading;
+pub use registers::Register;
