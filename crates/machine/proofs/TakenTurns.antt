@@ -10,12 +10,12 @@ use Rattle.refusals.specs.declared.refusals.Unreadable.{Unreadable}
 use Rattle.fetch.specs.Fetch.{fetchOf, pastOpcode}
 use Rattle.log.specs.declared.place.Place.{Place}
 use Rattle.actions.specs.Action.{actionOf}
-use Rattle.turn.specs.Time.{elapsedOf}
+use Rattle.time.specs.Time.{elapsedOf}
 use Rattle.turn.specs.Turn.{performAt, performOf, unfetchedAt, turnOf}
 use Rattle.actions.specs.declared.actions.Action.{Action}
 use Rattle.flags.specs.declared.flags.Flags.{Flags}
 use Rattle.state.specs.declared.slots.Slot.{Slot}
-use Rattle.turn.specs.declared.time.Elapsed.{Elapsed}
+use Rattle.time.specs.declared.elapsed.Elapsed.{Elapsed}
 use Rattle.turn.specs.declared.turn.Turn.{Turn}
 use Rattle.machine.proofs.StepLaws.{unfetched-past}
 

@@ -17,9 +17,9 @@ use state::has_slot;
 use state::is_running;
 use state::slot_of;
 use state::with_slot;
+use time::elapse;
 use turn::Effect;
 use turn::Turn;
-use turn::elapse;
 use turn::perform;
 use turn::unfetched;
 

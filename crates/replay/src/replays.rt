@@ -132,7 +132,7 @@ fn take_turn<'a>(
         return turn::unfetched(family, slot, flags, place, next, why);
     };
     let action = actions::action_of(instruction);
-    let elapsed = turn::elapse(action, clocks, known, values, place);
+    let elapsed = time::elapse(action, clocks, known, values, place);
     turn::perform(enable, slot, flags, action, ip + length, elapsed)
 }
 

@@ -15,7 +15,7 @@ use Rattle.log.specs.declared.place.Place.{Place}
 use Rattle.actions.specs.Action.{actionOf}
 use Rattle.state.specs.Slot.{hasSlot, slotOf}
 use Rattle.machine.specs.Step.{unmoved, afterTurn, stepOf}
-use Rattle.turn.specs.Time.{elapsedOf}
+use Rattle.time.specs.Time.{elapsedOf}
 use Rattle.turn.specs.Turn.{effectOf, ipAfter, modeAfter, performOf, sameTurn, turnOf}
 use Rattle.actions.specs.declared.actions.Action.{Action}
 use Rattle.flags.specs.declared.flags.Flags.{Flags}

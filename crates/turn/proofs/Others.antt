@@ -1,12 +1,11 @@
 -- What an action, or a reason, does that has no arm of its own: each arm `_` is told which variants are left to it. Assumes nothing.
 use Prim.Native.Nat.{ℕ}
 use mathlib.Core.Path.{_≡_, refl}
-use mathlib.Core.Bool.{Bool, not}
-use lib.Dec.{T}
+use mathlib.Core.Bool.{Bool}
 use mathlib.Core.List.{List, [], _∷_}
 use denote.Enum.Declared.{tagOf}
-use mir.Val.{hasKey}
-use types.Run.{OneOf, miss}
+use types.Run.{OneOf}
+use Rattle.actions.proofs.Variants.{none}
 use Rattle.actions.specs.declared.actions.Action.{Action}
 use Rattle.actions.proofs.actions.Action.{the-type as action-type}
 use Rattle.flags.specs.declared.flags.Flags.{Flags}
@@ -15,13 +14,8 @@ use Rattle.refusals.specs.declared.refusals.Unreadable.{Unreadable}
 use Rattle.refusals.proofs.refusals.Unreadable.{the-type as reason-type}
 use Rattle.state.specs.declared.slots.Mode.{Mode}
 use Rattle.state.specs.declared.slots.Slot.{Slot}
-use Rattle.turn.specs.Time.{atOnce, elapsedOf}
 use Rattle.turn.specs.Turn.{modeAfter, ipAfter, addrAfter, dataAfter, flagsAfter, effectOf, sameTurn, unfetchedAt}
 use Rattle.turn.specs.declared.turn.Effect.{Effect}
-
--- no variant is another than it is
-none : {A : Type 0} (ks : List ℕ) (k : ℕ) → T (not (hasKey ks k)) → OneOf ks k → A
-none ks k t h = elim (miss ks k t h) [ ]
 
 pub runs-on : (a : Action) (enable finished : Bool) → OneOf (2 ∷ 3 ∷ []) (tagOf action-type a) → Mode.Running ≡ modeAfter a enable finished
 runs-on (Action.Wait n) enable finished h = none (2 ∷ 3 ∷ []) 0 tt h
@@ -70,14 +64,6 @@ flags-stay (Action.Flag change flag) flags h = none (0 ∷ 1 ∷ 3 ∷ 4 ∷ 5 �
 flags-stay (Action.Load part operand) flags h = refl
 flags-stay (Action.Poke part operand) flags h = refl
 flags-stay Action.Exit flags h = refl
-
-pub takes-no-time : (a : Action) (clocks known values : List ℕ) (p : Place) → OneOf (2 ∷ 3 ∷ 4 ∷ 5 ∷ []) (tagOf action-type a) → atOnce p ≡ elapsedOf a clocks known values p
-takes-no-time (Action.Wait n) clocks known values p h = none (2 ∷ 3 ∷ 4 ∷ 5 ∷ []) 0 tt h
-takes-no-time (Action.Ewait event value) clocks known values p h = none (2 ∷ 3 ∷ 4 ∷ 5 ∷ []) 1 tt h
-takes-no-time (Action.Flag change flag) clocks known values p h = refl
-takes-no-time (Action.Load part operand) clocks known values p h = refl
-takes-no-time (Action.Poke part operand) clocks known values p h = refl
-takes-no-time Action.Exit clocks known values p h = refl
 
 pub stops : (why : Unreadable) (family : ℕ) (slot : Slot) (flags : Flags) (p : Place) (next : ℕ) → OneOf (0 ∷ 1 ∷ 3 ∷ 4 ∷ []) (tagOf reason-type why)
     → sameTurn slot flags p (Effect.Stopped why) ≡ unfetchedAt family slot flags p next why

@@ -4,46 +4,23 @@ use mathlib.Core.Path.{_≡_, refl}
 use mathlib.Core.Bool.{Bool, true}
 use mathlib.Core.List.{List}
 use native.Mathlib.Omega.{arith}
-use lib.ListN.{length}
 use Rattle.isa.specs.declared.reader.Decoded.{Decoded}
 use Rattle.refusals.specs.declared.refusals.Unreadable.{Unreadable}
-use Rattle.ewaits.specs.Ewait.{ewaitOf, passedBy, leftAfter}
-use Rattle.waits.specs.Left.{leftOf}
 use Rattle.log.specs.Validity.{validLog, validPlace}
-use Rattle.ewaits.specs.declared.ewait.Released.{Released}
 use Rattle.log.specs.declared.place.Place.{Place}
-use Rattle.ewaits.proofs.EwaitLaws.{ReleasedWithin, ewait-valid, ewait-spent}
-use Rattle.log.proofs.ValidLaws.{valid-at-end}
-use Rattle.waits.proofs.LeftLaws.{left-end, left-fits}
-use Rattle.waits.proofs.WaitLaws.{wait-valid, wait-spent}
 use Rattle.actions.specs.Action.{actionOf}
-use Rattle.turn.specs.Time.{afterEwait, elapsedOf}
+use Rattle.time.proofs.TimeLaws.{Spends, elapsed-clocks, elapsed-place}
 use Rattle.turn.specs.Turn.{performOf, unfetched, turnOf}
-use Rattle.actions.specs.declared.actions.Action.{Action}
 use Rattle.flags.specs.declared.flags.Flags.{Flags}
 use Rattle.state.specs.declared.slots.Slot.{Slot}
 
-module _ (clocks : List ℕ) where
-  -- what was left is what was waited, what was passed by and what is left then
-  abbrev Spends : Place → ℕ → ℕ → Place → Type 0
-  Spends p waited searched q = leftOf clocks p ≡ waited + searched + leftOf clocks q
-
-  ewait-clocks : (p : Place) (r : Released) → leftOf clocks p ≡ passedBy r + leftAfter clocks r
-      → (let e = afterEwait (length clocks) r in Spends p (e .waited) (e .searched) (e .place))
-  ewait-clocks p (Released.At q n) h = omega arith
-  ewait-clocks p (Released.End n) h = omega (arith, left-end clocks (length clocks) 0 (omega arith))
-
-  unfetched-clocks : (family : ℕ) (slot : Slot) (flags : Flags) (p : Place) (why : Unreadable)
-      → (let t = unfetched family slot flags p why in Spends p (t .waited) (t .searched) (t .place))
-  unfetched-clocks family slot flags p Unreadable.Family = omega arith
-  unfetched-clocks family slot flags p Unreadable.Empty = omega arith
-  unfetched-clocks family slot flags p Unreadable.Unknown = omega arith
-  unfetched-clocks family slot flags p Unreadable.Short = omega arith
-  unfetched-clocks family slot flags p Unreadable.NotUploaded = omega arith
-
-  ewait-place : (r : Released) → ReleasedWithin clocks r → validPlace clocks (afterEwait (length clocks) r .place) ≡ true
-  ewait-place (Released.At p n) h = h
-  ewait-place (Released.End n) h = valid-at-end clocks
+unfetched-clocks : (clocks : List ℕ) (family : ℕ) (slot : Slot) (flags : Flags) (p : Place) (why : Unreadable)
+    → (let t = unfetched family slot flags p why in Spends clocks p (t .waited) (t .searched) (t .place))
+unfetched-clocks clocks family slot flags p Unreadable.Family = omega arith
+unfetched-clocks clocks family slot flags p Unreadable.Empty = omega arith
+unfetched-clocks clocks family slot flags p Unreadable.Unknown = omega arith
+unfetched-clocks clocks family slot flags p Unreadable.Short = omega arith
+unfetched-clocks clocks family slot flags p Unreadable.NotUploaded = omega arith
 
 unfetched-place : (family : ℕ) (slot : Slot) (flags : Flags) (p : Place) (why : Unreadable) → unfetched family slot flags p why .place ≡ p
 unfetched-place family slot flags p Unreadable.Family = refl
@@ -53,32 +30,14 @@ unfetched-place family slot flags p Unreadable.Short = refl
 unfetched-place family slot flags p Unreadable.NotUploaded = refl
 
 module _ (clocks known values : List ℕ) (log : validLog clocks known values ≡ true) where
-  elapsed-clocks : (action : Action) (p : Place) → (let e = elapsedOf action clocks known values p in Spends clocks p (e .waited) (e .searched) (e .place))
-  elapsed-clocks (Action.Wait n) p = omega (arith, wait-spent clocks p n)
-  elapsed-clocks (Action.Ewait event value) p =
-      ewait-clocks clocks p (ewaitOf clocks known values p event value) (ewait-spent clocks known values event value p (left-fits clocks known values log p))
-  elapsed-clocks (Action.Flag change flag) p = omega arith
-  elapsed-clocks (Action.Load part word) p = omega arith
-  elapsed-clocks (Action.Poke part word) p = omega arith
-  elapsed-clocks Action.Exit p = omega arith
-
   pub turn-clocks : (family : ℕ) (enable : Bool) (slot : Slot) (flags : Flags) (p : Place) (fetched : Decoded)
       → (let t = turnOf family enable slot flags clocks known values p fetched in Spends clocks p (t .waited) (t .searched) (t .place))
   unfolding performOf
-  turn-clocks family enable slot flags p (Decoded.Instruction instruction n) = elapsed-clocks (actionOf instruction) p
+  turn-clocks family enable slot flags p (Decoded.Instruction instruction n) = elapsed-clocks clocks known values log (actionOf instruction) p
   turn-clocks family enable slot flags p (Decoded.Refused why) = unfetched-clocks clocks family slot flags p why
-
-  elapsed-place : (action : Action) (p : Place) → validPlace clocks p ≡ true → validPlace clocks (elapsedOf action clocks known values p .place) ≡ true
-  elapsed-place (Action.Wait n) p v = wait-valid clocks known values log p n v
-  elapsed-place (Action.Ewait event value) p v =
-      ewait-place clocks (ewaitOf clocks known values p event value) (ewait-valid clocks known values log event value p v)
-  elapsed-place (Action.Flag change flag) p v = v
-  elapsed-place (Action.Load part word) p v = v
-  elapsed-place (Action.Poke part word) p v = v
-  elapsed-place Action.Exit p v = v
 
   pub turn-place : (family : ℕ) (enable : Bool) (slot : Slot) (flags : Flags) (p : Place) (fetched : Decoded) → validPlace clocks p ≡ true
       → validPlace clocks (turnOf family enable slot flags clocks known values p fetched .place) ≡ true
   unfolding performOf
-  turn-place family enable slot flags p (Decoded.Instruction instruction n) v = elapsed-place (actionOf instruction) p v
+  turn-place family enable slot flags p (Decoded.Instruction instruction n) v = elapsed-place clocks known values log (actionOf instruction) p v
   turn-place family enable slot flags p (Decoded.Refused why) v = rw (unfetched-place family slot flags p why) v

@@ -11,14 +11,14 @@ use Rattle.refusals.specs.declared.refusals.Unreadable.{Unreadable}
 use Rattle.log.specs.declared.place.Place.{Place}
 use Rattle.actions.specs.Action.{actionOf, mergeOf}
 use Rattle.flags.specs.Flags.{changedFlags}
-use Rattle.turn.specs.Time.{elapsedOf}
+use Rattle.time.specs.Time.{elapsedOf}
 use Rattle.actions.specs.declared.actions.Action.{Action}
 use Rattle.flags.specs.declared.flags.Change.{Change}
 use Rattle.actions.specs.declared.actions.Part.{Part}
 use Rattle.flags.specs.declared.flags.Flags.{Flags}
 use Rattle.state.specs.declared.slots.Mode.{Mode}
 use Rattle.state.specs.declared.slots.Slot.{Slot}
-use Rattle.turn.specs.declared.time.Elapsed.{Elapsed}
+use Rattle.time.specs.declared.elapsed.Elapsed.{Elapsed}
 use Rattle.turn.specs.declared.turn.Effect.{Effect}
 use Rattle.turn.specs.declared.turn.Turn.{Turn}
 use Rattle.refusals.specs.declared.refusals.Unsteppable.{Unsteppable}

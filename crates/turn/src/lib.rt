@@ -1,9 +1,6 @@
 // What one fetched instruction does to its slot, the flags and the place in the log.
-mod time;
 mod turn;
 
-pub use time::Elapsed;
-pub use time::elapse;
 pub use turn::Effect;
 pub use turn::Turn;
 pub use turn::perform;

@@ -2,7 +2,6 @@
 ghost use mathlib.Core.Path.{_≡_};
 ghost use mathlib.Core.Bool.{cond};
 ghost use Rattle.turn.specs.Turn.{modeAfter, ipAfter, addrAfter, dataAfter, flagsAfter, effectOf, performAt, sameTurn, unfetchedAt};
-use crate::time::Elapsed;
 use actions::Action;
 use actions::merge;
 use flags::Flags;
@@ -14,6 +13,7 @@ use refusals::Unreadable;
 use refusals::Unsteppable;
 use state::Mode;
 use state::Slot;
+use time::Elapsed;
 
 // What a step did.
 pub enum Effect {

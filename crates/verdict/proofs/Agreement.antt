@@ -12,7 +12,7 @@ use Rattle.actions.specs.Action.{mergeOf}
 use Rattle.flags.specs.Flags.{overrides1, pausedOf}
 use Rattle.state.specs.Slot.{slotOf}
 use Rattle.machine.specs.Step.{afterTurn}
-use Rattle.turn.specs.Time.{elapsedOf}
+use Rattle.time.specs.Time.{elapsedOf}
 use Rattle.turn.specs.Turn.{dataAfter, flagsAfter, effectOf, performOf}
 use Rattle.actions.specs.declared.actions.Action.{Action}
 use Rattle.actions.specs.declared.actions.Part.{Part}
@@ -20,7 +20,7 @@ use Rattle.flags.specs.declared.flags.Flags.{Flags}
 use Rattle.state.specs.declared.slots.Mode.{Mode}
 use Rattle.state.specs.declared.slots.Slot.{Slot}
 use Rattle.state.specs.declared.slots.SlotName.{SlotName}
-use Rattle.turn.specs.declared.time.Elapsed.{Elapsed}
+use Rattle.time.specs.declared.elapsed.Elapsed.{Elapsed}
 use Rattle.turn.specs.declared.turn.Turn.{Turn}
 use Rattle.state.proofs.SlotLaws.{slot-back, flags-back}
 use Rattle.verdict.specs.Auditor.{isSet1, loadsBoth, knownData, knownPaused, pokeCount, knowNext}

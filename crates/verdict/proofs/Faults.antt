@@ -18,7 +18,7 @@ use Rattle.ewaits.proofs.EwaitLaws.{ewait-on-reading}
 use Rattle.actions.specs.Action.{mergeOf}
 use Rattle.flags.specs.Flags.{pausedOf}
 use Rattle.state.specs.Slot.{isRunning, slotOf}
-use Rattle.turn.specs.Time.{afterEwait, elapsedOf}
+use Rattle.time.specs.Time.{afterEwait, elapsedOf}
 use Rattle.turn.specs.Turn.{performOf, unfetched}
 use Rattle.actions.specs.declared.actions.Action.{Action}
 use Rattle.actions.specs.declared.actions.Part.{Part}

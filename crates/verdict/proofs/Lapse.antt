@@ -13,11 +13,11 @@ use Rattle.ewaits.specs.declared.ewait.Released.{Released}
 use Rattle.log.specs.declared.place.Place.{Place}
 use Rattle.log.proofs.ValidLaws.{row-within}
 use Rattle.waits.proofs.WaitLaws.{cut-at-end}
-use Rattle.turn.specs.Time.{elapsedOf, afterEwait}
+use Rattle.time.specs.Time.{elapsedOf, afterEwait}
 use Rattle.turn.specs.Turn.{modeAfter, effectOf}
 use Rattle.actions.specs.declared.actions.Action.{Action}
 use Rattle.state.specs.declared.slots.Mode.{Mode}
-use Rattle.turn.specs.declared.time.Elapsed.{Elapsed}
+use Rattle.time.specs.declared.elapsed.Elapsed.{Elapsed}
 use Rattle.turn.specs.declared.turn.Effect.{Effect}
 use Rattle.verdict.specs.Auditor.{waitLength}
 use Rattle.verdict.proofs.Cases.{never}

@@ -9,7 +9,7 @@ use Rattle.fetch.specs.Fetch.{fetchOf}
 use Rattle.log.specs.Validity.{validLog, validPlace}
 use Rattle.state.specs.Slot.{hasSlot, isRunning, slotOf}
 use Rattle.machine.specs.Step.{unmoved, afterTurn}
-use Rattle.turn.specs.Time.{elapsedOf}
+use Rattle.time.specs.Time.{elapsedOf}
 use Rattle.turn.specs.Turn.{performOf, unfetched, turnOf}
 use Rattle.actions.specs.declared.actions.Action.{Action}
 use Rattle.state.specs.declared.slots.Mode.{Mode}

@@ -16,11 +16,11 @@ use Rattle.ewaits.specs.declared.ewait.Released.{Released}
 use Rattle.log.specs.declared.place.Place.{Place}
 use Rattle.ewaits.proofs.EwaitLaws.{FoundBy, search-finds}
 use Rattle.waits.proofs.WaitLaws.{wait-in}
-use Rattle.turn.specs.Time.{afterEwait, elapsedOf}
+use Rattle.time.specs.Time.{afterEwait, elapsedOf}
 use Rattle.actions.specs.declared.actions.Action.{Action}
 use Rattle.state.specs.declared.slots.SlotName.{SlotName}
 use Rattle.state.specs.declared.state.State.{State}
-use Rattle.turn.specs.declared.time.Elapsed.{Elapsed}
+use Rattle.time.specs.declared.elapsed.Elapsed.{Elapsed}
 use Rattle.verdict.specs.Auditor.{canRelease, waitLength, knowNext, knowNothing}
 use Rattle.run.specs.Run.{Run, begun, runFor}
 use Rattle.verdict.specs.declared.verdicts.Knowledge.{Knowledge}

@@ -2,9 +2,9 @@
 use denote.Ref.{now}
 use mathlib.Core.Path.{_∙_}
 use borrow.Author.Needs.{needs}
-use Rattle.turn.proofs.Others.{takes-no-time}
-use Rattle.turn.proofs.time.elapse.Statement.{statement}
-use Rattle.turn.proofs.time.elapse.Tie as tie
+use Rattle.time.proofs.Others.{takes-no-time}
+use Rattle.time.proofs.elapsed.elapse.Statement.{statement}
+use Rattle.time.proofs.elapsed.elapse.Tie as tie
 
 returns : tie.Need-returns
 returns c = simp (c .before .before .action .given .1, c .after-wait .ensures)

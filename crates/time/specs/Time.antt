@@ -12,7 +12,7 @@ use Rattle.waits.specs.declared.wait.Waited.{Waited}
 use Rattle.actions.specs.declared.actions.Action.{Action}
 use Rattle.flags.specs.declared.flags.Change.{Change}
 use Rattle.actions.specs.declared.actions.Part.{Part}
-use Rattle.turn.specs.declared.time.Elapsed.{Elapsed}
+use Rattle.time.specs.declared.elapsed.Elapsed.{Elapsed}
 
 -- an unfinished wait counts as far as it got
 abbrev pub afterWait : ℕ → Waited → Elapsed

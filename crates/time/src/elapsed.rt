@@ -1,6 +1,6 @@
 // How time passes during an action.
 ghost use mathlib.Core.Path.{_≡_};
-ghost use Rattle.turn.specs.Time.{atOnce, afterWait, afterEwait, elapsedOf};
+ghost use Rattle.time.specs.Time.{atOnce, afterWait, afterEwait, elapsedOf};
 ghost use Rattle.waits.specs.Wait.{waitOf};
 use actions::Action;
 use ewaits::Released;

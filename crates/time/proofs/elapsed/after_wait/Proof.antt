@@ -1,7 +1,7 @@
 -- Assumes nothing.
 use borrow.Author.Needs.{needs}
-use Rattle.turn.proofs.time.after_wait.Statement.{statement}
-use Rattle.turn.proofs.time.after_wait.Tie as tie
+use Rattle.time.proofs.elapsed.after_wait.Statement.{statement}
+use Rattle.time.proofs.elapsed.after_wait.Tie as tie
 
 returns : tie.Need-returns
 returns c = simp (c .before .clock-wait .ensures .answered)

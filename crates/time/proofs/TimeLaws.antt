@@ -1,0 +1,51 @@
+-- What an action does to the place and the clocks. Assumes nothing.
+use Prim.Native.Nat.{ℕ, _+_}
+use mathlib.Core.Path.{_≡_}
+use mathlib.Core.Bool.{true}
+use mathlib.Core.List.{List}
+use native.Mathlib.Omega.{arith}
+use lib.ListN.{length}
+use Rattle.ewaits.specs.Ewait.{ewaitOf, passedBy, leftAfter}
+use Rattle.waits.specs.Left.{leftOf}
+use Rattle.log.specs.Validity.{validLog, validPlace}
+use Rattle.ewaits.specs.declared.ewait.Released.{Released}
+use Rattle.log.specs.declared.place.Place.{Place}
+use Rattle.ewaits.proofs.EwaitLaws.{ReleasedWithin, ewait-valid, ewait-spent}
+use Rattle.log.proofs.ValidLaws.{valid-at-end}
+use Rattle.waits.proofs.LeftLaws.{left-end, left-fits}
+use Rattle.waits.proofs.WaitLaws.{wait-valid, wait-spent}
+use Rattle.time.specs.Time.{afterEwait, elapsedOf}
+use Rattle.actions.specs.declared.actions.Action.{Action}
+
+module _ (clocks : List ℕ) where
+  -- what was left is what was waited, what was passed by and what is left then
+  abbrev pub Spends : Place → ℕ → ℕ → Place → Type 0
+  Spends p waited searched q = leftOf clocks p ≡ waited + searched + leftOf clocks q
+
+  ewait-clocks : (p : Place) (r : Released) → leftOf clocks p ≡ passedBy r + leftAfter clocks r
+      → (let e = afterEwait (length clocks) r in Spends p (e .waited) (e .searched) (e .place))
+  ewait-clocks p (Released.At q n) h = omega arith
+  ewait-clocks p (Released.End n) h = omega (arith, left-end clocks (length clocks) 0 (omega arith))
+
+  ewait-place : (r : Released) → ReleasedWithin clocks r → validPlace clocks (afterEwait (length clocks) r .place) ≡ true
+  ewait-place (Released.At p n) h = h
+  ewait-place (Released.End n) h = valid-at-end clocks
+
+module _ (clocks known values : List ℕ) (log : validLog clocks known values ≡ true) where
+  pub elapsed-clocks : (action : Action) (p : Place) → (let e = elapsedOf action clocks known values p in Spends clocks p (e .waited) (e .searched) (e .place))
+  elapsed-clocks (Action.Wait n) p = omega (arith, wait-spent clocks p n)
+  elapsed-clocks (Action.Ewait event value) p =
+      ewait-clocks clocks p (ewaitOf clocks known values p event value) (ewait-spent clocks known values event value p (left-fits clocks known values log p))
+  elapsed-clocks (Action.Flag change flag) p = omega arith
+  elapsed-clocks (Action.Load part word) p = omega arith
+  elapsed-clocks (Action.Poke part word) p = omega arith
+  elapsed-clocks Action.Exit p = omega arith
+
+  pub elapsed-place : (action : Action) (p : Place) → validPlace clocks p ≡ true → validPlace clocks (elapsedOf action clocks known values p .place) ≡ true
+  elapsed-place (Action.Wait n) p v = wait-valid clocks known values log p n v
+  elapsed-place (Action.Ewait event value) p v =
+      ewait-place clocks (ewaitOf clocks known values p event value) (ewait-valid clocks known values log event value p v)
+  elapsed-place (Action.Flag change flag) p v = v
+  elapsed-place (Action.Load part word) p v = v
+  elapsed-place (Action.Poke part word) p v = v
+  elapsed-place Action.Exit p v = v

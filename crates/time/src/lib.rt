@@ -1,0 +1,5 @@
+// How time passes during an action.
+mod elapsed;
+
+pub use elapsed::Elapsed;
+pub use elapsed::elapse;
