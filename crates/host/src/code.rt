@@ -1,39 +1,50 @@
 // Code RAM as the host sees it: words of four bytes, the lowest byte first.
 ghost use mathlib.Core.Path.{_≡_};
 ghost use Prim.Native.Nat.{_+_, _*_, _≤_};
-ghost use Rattle.registers.specs.Code.{uploadedByte, codeWord, afterUpload};
+ghost use lib.Seq.{sets};
+ghost use Rattle.isa.specs.Writer.{leBytes};
+ghost use Rattle.registers.specs.Code.{codeWord, afterUpload};
+ghost use Rattle.host.specs.Inside.{byteIn};
 use state::State;
 
-// The state with four bytes uploaded from a place on.
-pub(crate) fn after_upload(state: State, at: usize, word: u32) -> State
+// A mark for each byte of a word.
+const MARKS: u32 = 0x01010101;
+
+// The bytes with those of a word from a place on.
+fn with_word(mut bytes: [u8; 512], at: usize, word: u32) -> [u8; 512]
     requires { ⌜ at + 4 ≤ 512 ⌝ }
-    ensures { λ r. ⌜ r ≡ afterUpload state at word ⌝ }
+    ensures { λ r. ⌜ r ≡ sets bytes at (leBytes 4 word) ⌝ }
 {
     let second = word / 256;
     let third = second / 256;
     let fourth = third / 256;
-    let mut next = state;
-    next.code[at] = (word % 256) as u8;
-    next.code[at + 1] = (second % 256) as u8;
-    next.code[at + 2] = (third % 256) as u8;
-    next.code[at + 3] = (fourth % 256) as u8;
-    next.marks[at] = 1;
-    next.marks[at + 1] = 1;
-    next.marks[at + 2] = 1;
-    next.marks[at + 3] = 1;
-    next
+    bytes[at] = (word % 256) as u8;
+    bytes[at + 1] = (second % 256) as u8;
+    bytes[at + 2] = (third % 256) as u8;
+    bytes[at + 3] = (fourth % 256) as u8;
+    bytes
+}
+
+// The state with four bytes uploaded from a place on.
+pub(crate) fn after_upload(mut state: State, at: usize, word: u32) -> State
+    requires { ⌜ at + 4 ≤ 512 ⌝ }
+    ensures { λ r. ⌜ r ≡ afterUpload state at word ⌝ }
+{
+    let code = state.code;
+    let marks = state.marks;
+    let uploaded = with_word(code, at, word);
+    let marked = with_word(marks, at, MARKS);
+    state.code = uploaded;
+    state.marks = marked;
+    state
 }
 
 // A byte that was uploaded, and 0 where none was.
-fn uploaded_byte(state: State, at: usize) -> u8
+fn uploaded_byte(code: [u8; 512], marks: [u8; 512], at: usize) -> u8
     requires { ⌜ at + 1 ≤ 512 ⌝ }
-    ensures { λ r. ⌜ r ≡ uploadedByte state at ⌝ }
+    ensures { λ r. ⌜ r ≡ byteIn code marks at ⌝ }
 {
-    if state.marks[at] == 1 {
-        state.code[at]
-    } else {
-        0
-    }
+    if marks[at] == 1 { code[at] } else { 0 }
 }
 
 fn word_of(a: u8, b: u8, c: u8, d: u8) -> u32
@@ -46,10 +57,12 @@ pub(crate) fn code_word(state: State, at: usize) -> u32
     requires { ⌜ at + 4 ≤ 512 ⌝ }
     ensures { λ r. ⌜ r ≡ codeWord state at ⌝ }
 {
+    let code = state.code;
+    let marks = state.marks;
     word_of(
-        uploaded_byte(state, at),
-        uploaded_byte(state, at + 1),
-        uploaded_byte(state, at + 2),
-        uploaded_byte(state, at + 3),
+        uploaded_byte(code, marks, at),
+        uploaded_byte(code, marks, at + 1),
+        uploaded_byte(code, marks, at + 2),
+        uploaded_byte(code, marks, at + 3),
     )
 }

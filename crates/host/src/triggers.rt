@@ -1,7 +1,7 @@
 // Starting and aborting a script: what a word written to TRIGGER does.
 ghost use mathlib.Core.Path.{_≡_};
-ghost use Rattle.registers.specs.Trigger.{isStart, slotNamed, startedAt, afterTrigger};
-ghost use Rattle.registers.specs.Trigger.{aborted as Trigger·aborted};
+ghost use mathlib.Core.Bool.{cond};
+ghost use Rattle.registers.specs.Trigger.{isStart, slotNamed, startedAt, aborted, afterTrigger};
 use crate::entries::entry_point;
 use isa::CodeAddress;
 use state::Mode;
@@ -26,25 +26,20 @@ fn slot_named(family: u8, word: u32) -> SlotName
     }
 }
 
-// The slot at the start of a script. ADDR and DATA outlive scripts.
-fn started_at(slot: Slot, entry: usize) -> Slot
-    ensures { λ r. ⌜ r ≡ startedAt slot entry ⌝ }
+// The slot after a trigger: at the start of a script, or stopped. ADDR and DATA outlive scripts, and an abort keeps IP.
+fn triggered(slot: Slot, word: u32, entry: usize) -> Slot
+    ensures { λ r. ⌜ r ≡ cond (isStart word) (startedAt slot entry) (aborted slot) ⌝ }
 {
     let addr = slot.addr;
-    Slot {
-        mode: Mode::Running,
-        ip: CodeAddress(entry),
-        addr,
-        data: slot.data,
+    if is_start(word) {
+        return Slot {
+            mode: Mode::Running,
+            ip: CodeAddress(entry),
+            addr,
+            data: slot.data,
+        };
     }
-}
-
-// The slot after an abort, which stops it whatever it did, and changes nothing else.
-fn aborted(slot: Slot) -> Slot
-    ensures { λ r. ⌜ r ≡ Trigger·aborted slot ⌝ }
-{
     let ip = slot.ip;
-    let addr = slot.addr;
     Slot {
         mode: Mode::Idle,
         ip,
@@ -57,17 +52,9 @@ pub(crate) fn after_trigger(state: State, word: u32) -> State
     ensures { λ r. ⌜ r ≡ afterTrigger state word ⌝ }
 {
     let name = slot_named(state.family, word);
-    let slot = state::slot_of(state, name);
+    let number = word / 4 % 4;
+    let entry = entry_point(state.family, state.entries, state.entries_high, number);
     let flags = state.flags;
-    if is_start(word) {
-        let entry = entry_point(
-            state.family,
-            state.entries,
-            state.entries_high,
-            word / 4 % 4,
-        );
-        state::with_slot(state, name, started_at(slot, entry), flags)
-    } else {
-        state::with_slot(state, name, aborted(slot), flags)
-    }
+    let slot = triggered(state::slot_of(state, name), word, entry);
+    state::with_slot(state, name, slot, flags)
 }

@@ -1,16 +1,13 @@
 -- Assumes nothing.
 use borrow.Author.Tests.{eq-eqb, ne-eqb}
-use Rattle.registers.specs.Code.{uploadedByte}
 use borrow.Author.Needs.{needs}
 use Rattle.host.proofs.code.uploaded_byte.Statement.{statement}
 use Rattle.host.proofs.code.uploaded_byte.Tie as tie
 
 returns : tie.Need-returns
-unfolding uploadedByte
-returns c = simp (eq-eqb _ _ (c .before .if1 .taken))
+returns c = simp (eq-eqb _ _ (c .if1 .taken))
 
 returns-2 : tie.Need-returns-2
-unfolding uploadedByte
 returns-2 c = simp (ne-eqb _ _ (c .if1 .left))
 
 pub uploaded-byte-spec : {M : Type 1} → statement M

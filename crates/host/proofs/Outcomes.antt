@@ -1,0 +1,75 @@
+-- What the tests of an access come to, and what it leaves. Assumes nothing.
+use Prim.Native.Nat.{ℕ, _/_, _%_}
+use mathlib.Core.Path.{_≡_, refl, sym}
+use mathlib.Core.Bool.{Bool, true, false, cond, _||_}
+use native.Mathlib.Omega.{arith}
+use Rattle.families.specs.Family.{knownFamily}
+use Rattle.isa.proofs.Tests.{cond-elim}
+use Rattle.isa.specs.declared.addresses.MmioAddress.{MmioAddress}
+use Rattle.refusals.specs.declared.refusals.Inaccessible.{Inaccessible}
+use Rattle.state.specs.Slot.{slotOf, withSlot}
+use Rattle.state.specs.declared.slots.Slot.{Slot}
+use Rattle.state.specs.declared.slots.SlotName.{SlotName}
+use Rattle.state.specs.declared.state.State.{State}
+use Rattle.registers.specs.Access.{done, refused, blankState, freshOf, afterWrite, isTaken, writeOf}
+use Rattle.registers.specs.Entry.{entryPoint}
+use Rattle.registers.specs.Register.{registerAt, isWritable}
+use Rattle.registers.specs.Trigger.{isStart, slotNamed, startedAt, aborted, afterTrigger}
+use Rattle.registers.specs.declared.access.Access.{Access}
+use Rattle.registers.specs.declared.access.Outcome.{Outcome}
+use Rattle.registers.specs.declared.registers.Register.{Register}
+use Rattle.host.specs.Inside.{freshOutcome, writeOutcome}
+
+pub or-true : (b : Bool) → (b || true) ≡ true
+or-true true = refl
+or-true false = refl
+
+pub or-false : (b : Bool) → (b || false) ≡ b
+or-false true = refl
+or-false false = refl
+
+pub fresh-as : (family : ℕ) → _≡_ {A = Access} (record { state = blankState family; outcome = freshOutcome family }) (freshOf family)
+unfolding freshOutcome
+fresh-as family = cond-elim (λ (t : Access). _≡_ {A = Access} (record { state = blankState family; outcome = cond (knownFamily family) Outcome.Done (Outcome.Refused Inaccessible.Family) }) t) (knownFamily family) (λ u. rw u) (λ u. rw u)
+
+-- a trigger writes one slot, started or aborted
+pub triggered-as : (s : State) (word : ℕ)
+    → let name = slotNamed (s .family) word in
+    let slot = slotOf s name in
+    withSlot s name (cond (isStart word) (startedAt slot (entryPoint (s .family) (s .entries) (s .«entries_high») (word / 4 % 4))) (aborted slot)) (s .flags) ≡ afterTrigger s word
+unfolding afterTrigger
+triggered-as s word = chosen (isStart word) _ _
+  where
+    name : SlotName
+    name = slotNamed (s .family) word
+
+    chosen : (b : Bool) (x y : Slot) → withSlot s name (cond b x y) (s .flags) ≡ cond b (withSlot s name x (s .flags)) (withSlot s name y (s .flags))
+    chosen true x y = refl
+    chosen false x y = refl
+
+module _ (s : State) (address : MmioAddress) (word : ℕ) where
+  abbrev register : Register
+  register = registerAt (s .family) address
+
+  -- the tests in the order of the definition, with what each outcome leaves
+  abbrev Answers : Outcome → Access → Type 0
+  Answers Outcome.Done t = t ≡ done (afterWrite s register word)
+  Answers (Outcome.Refused why) t = t ≡ refused s why
+
+  answers : Answers (writeOutcome (s .family) register (isTaken s address word)) (writeOf s address word)
+  unfolding writeOutcome writeOf
+  answers = chosen (knownFamily (s .family)) (isWritable register) (isTaken s address word)
+    where
+      chosen : (known writable taken : Bool)
+          → Answers (cond known (cond writable (cond taken Outcome.Done (Outcome.Refused Inaccessible.Executing)) (Outcome.Refused Inaccessible.Register)) (Outcome.Refused Inaccessible.Family))
+          (cond known (cond writable (cond taken (done (afterWrite s register word)) (refused s Inaccessible.Executing)) (refused s Inaccessible.Register)) (refused s Inaccessible.Family))
+      chosen true true true = refl
+      chosen true true false = refl
+      chosen true false taken = refl
+      chosen false writable taken = refl
+
+  pub write-done : writeOutcome (s .family) register (isTaken s address word) ≡ Outcome.Done → done (afterWrite s register word) ≡ writeOf s address word
+  write-done e = sym (rw e at answers)
+
+  pub write-refused : {why : Inaccessible} → writeOutcome (s .family) register (isTaken s address word) ≡ Outcome.Refused why → refused s why ≡ writeOf s address word
+  write-refused e = sym (rw e at answers)

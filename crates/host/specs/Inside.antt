@@ -1,0 +1,29 @@
+-- What private functions cite; no public contract does.
+use Prim.Native.Nat.{ℕ}
+use mathlib.Core.Bool.{Bool, cond}
+use mathlib.Core.List.{List}
+use lib.Dec.{eqb}
+use lib.ListN.{getD}
+use Rattle.families.specs.Family.{knownFamily}
+use Rattle.refusals.specs.declared.refusals.Inaccessible.{Inaccessible}
+use Rattle.registers.specs.Register.{isWritable}
+use Rattle.registers.specs.declared.access.Outcome.{Outcome}
+use Rattle.registers.specs.declared.registers.Register.{Register}
+
+unfoldable pub freshOutcome : ℕ → Outcome
+freshOutcome family = cond (knownFamily family) Outcome.Done (Outcome.Refused Inaccessible.Family)
+
+-- what the tests of a write come to, in their order
+unfoldable pub writeOutcome : ℕ → Register → Bool → Outcome
+writeOutcome family register taken =
+    cond (knownFamily family)
+    (cond (isWritable register)
+    (cond taken
+    Outcome.Done
+    (Outcome.Refused Inaccessible.Executing))
+    (Outcome.Refused Inaccessible.Register))
+    (Outcome.Refused Inaccessible.Family)
+
+-- a byte of code RAM as it reads, of the code and its marks alone
+abbrev pub byteIn : List ℕ → List ℕ → ℕ → ℕ
+byteIn code marks at = cond (eqb (getD marks at 0) 1) (getD code at 0) 0
