@@ -28,7 +28,7 @@ pub struct ReadReply {
 pub extern "C" fn hwsq_fresh(family: u8) -> AccessReply
     ensures { λ r. ⌜ HwsqFresh family r ⌝ }
 {
-    access_reply(host::fresh_state(family))
+    access_reply(fresh::fresh_state(family))
 }
 
 // The state after the host writes a word at an address.

@@ -4,21 +4,20 @@ use mathlib.Core.Path.{_≡_, refl, sym}
 use mathlib.Core.Bool.{Bool, true, false, cond, _||_}
 use native.Mathlib.Omega.{arith}
 use Rattle.families.specs.Family.{knownFamily}
-use Rattle.isa.proofs.Tests.{cond-elim}
 use Rattle.isa.specs.declared.addresses.MmioAddress.{MmioAddress}
 use Rattle.refusals.specs.declared.refusals.Inaccessible.{Inaccessible}
 use Rattle.state.specs.Slot.{slotOf, withSlot}
 use Rattle.state.specs.declared.slots.Slot.{Slot}
 use Rattle.state.specs.declared.slots.SlotName.{SlotName}
 use Rattle.state.specs.declared.state.State.{State}
-use Rattle.registers.specs.Access.{done, refused, blankState, freshOf, afterWrite, isTaken, writeOf}
+use Rattle.registers.specs.Access.{done, refused, afterWrite, isTaken, writeOf}
 use Rattle.registers.specs.Entry.{entryPoint}
 use Rattle.registers.specs.Register.{registerAt, isWritable}
 use Rattle.registers.specs.Trigger.{isStart, slotNamed, startedAt, aborted, afterTrigger}
 use Rattle.registers.specs.declared.access.Access.{Access}
 use Rattle.registers.specs.declared.access.Outcome.{Outcome}
 use Rattle.registers.specs.declared.registers.Register.{Register}
-use Rattle.host.specs.Inside.{freshOutcome, writeOutcome}
+use Rattle.host.specs.Inside.{writeOutcome}
 
 pub or-true : (b : Bool) → (b || true) ≡ true
 or-true true = refl
@@ -27,10 +26,6 @@ or-true false = refl
 pub or-false : (b : Bool) → (b || false) ≡ b
 or-false true = refl
 or-false false = refl
-
-pub fresh-as : (family : ℕ) → _≡_ {A = Access} (record { state = blankState family; outcome = freshOutcome family }) (freshOf family)
-unfolding freshOutcome
-fresh-as family = cond-elim (λ (t : Access). _≡_ {A = Access} (record { state = blankState family; outcome = cond (knownFamily family) Outcome.Done (Outcome.Refused Inaccessible.Family) }) t) (knownFamily family) (λ u. rw u) (λ u. rw u)
 
 -- a trigger writes one slot, started or aborted
 pub triggered-as : (s : State) (word : ℕ)

@@ -10,9 +10,6 @@ use Rattle.registers.specs.Register.{isWritable}
 use Rattle.registers.specs.declared.access.Outcome.{Outcome}
 use Rattle.registers.specs.declared.registers.Register.{Register}
 
-unfoldable pub freshOutcome : ℕ → Outcome
-freshOutcome family = cond (knownFamily family) Outcome.Done (Outcome.Refused Inaccessible.Family)
-
 -- what the tests of a write come to, in their order
 unfoldable pub writeOutcome : ℕ → Register → Bool → Outcome
 writeOutcome family register taken =

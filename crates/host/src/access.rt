@@ -1,10 +1,10 @@
-// A fresh state, and the host's writes and reads.
+// The host's writes and reads.
 ghost use mathlib.Core.Path.{_≡_};
 ghost use mathlib.Core.Bool.{not, _||_};
-ghost use Rattle.registers.specs.Access.{blankState, afterWrite, isAbort, controlWord, readingOf};
+ghost use Rattle.registers.specs.Access.{afterWrite, isAbort, controlWord, readingOf};
 ghost use Rattle.registers.specs.Register.{InRoom};
-ghost use Rattle.registers.specs.Promises.{Begins, HostWrites, HostReads};
-ghost use Rattle.host.specs.Inside.{freshOutcome, writeOutcome};
+ghost use Rattle.registers.specs.Promises.{HostWrites, HostReads};
+ghost use Rattle.host.specs.Inside.{writeOutcome};
 use crate::addresses::TRIGGER;
 use crate::addresses::is_writable;
 use crate::addresses::register_at;
@@ -15,63 +15,14 @@ use crate::status::bit_if;
 use crate::status::status_word;
 use crate::triggers::after_trigger;
 use crate::triggers::is_start;
-use flags::Flags;
-use isa::CodeAddress;
 use isa::MmioAddress;
 use refusals::Inaccessible;
 use registers::Access;
 use registers::Outcome;
 use registers::Reading;
 use registers::Register;
-use state::Mode;
-use state::Slot;
 use state::State;
 use state::some_slot_executes;
-
-// Every register 0, nothing uploaded, both slots idle.
-fn blank_state(family: u8) -> State
-    ensures { λ r. ⌜ r ≡ blankState family ⌝ }
-{
-    let slot = Slot {
-        mode: Mode::Idle,
-        ip: CodeAddress(0),
-        addr: MmioAddress(0),
-        data: 0,
-    };
-    State {
-        family,
-        code: [0u8; 512],
-        marks: [0u8; 512],
-        flags: Flags {
-            values: 0,
-            enables: 0,
-        },
-        enable: false,
-        override_mode: false,
-        entries: 0,
-        entries_high: 0,
-        a: slot,
-        b: slot,
-    }
-}
-
-fn fresh_outcome(family: u8) -> Outcome
-    ensures { λ r. ⌜ r ≡ freshOutcome family ⌝ }
-{
-    if !families::known_family(family) {
-        return Outcome::Refused(Inaccessible::Family);
-    }
-    Outcome::Done
-}
-
-// The state of a card before the host touched it.
-pub fn fresh_state(family: u8) -> Access
-    ensures { λ r. ⌜ Begins family r ⌝ }
-{
-    let state = blank_state(family);
-    let outcome = fresh_outcome(family);
-    Access { state, outcome }
-}
 
 // The state after a word is written to a register that takes one.
 fn after_write(mut state: State, register: Register, word: u32) -> State

@@ -1,4 +1,4 @@
-// The host's side of the sequencer: a fresh state, and writes and reads of its registers.
+// The host's side of the sequencer: writes and reads of its registers.
 mod access;
 mod addresses;
 mod code;
@@ -6,6 +6,5 @@ mod entries;
 mod status;
 mod triggers;
 
-pub use access::fresh_state;
 pub use access::read_register;
 pub use access::write_register;

@@ -78,7 +78,7 @@ pub(crate) fn counted(kind: u8, counts: Counts) -> Counts
 pub(crate) fn empty_job() -> Job
     ensures { λ r. ⌜ r ≡ emptyJob ⌝ }
 {
-    let fresh = host::fresh_state(0);
+    let fresh = fresh::fresh_state(0);
     let state = fresh.state;
     Job {
         counts: Counts {
@@ -111,7 +111,7 @@ pub(crate) fn state_after(kind: u8, rest: &[u8], state: State) -> State
 {
     match kind {
         FAMILY => {
-            let fresh = host::fresh_state(byte_at(rest, 1));
+            let fresh = fresh::fresh_state(byte_at(rest, 1));
             fresh.state
         }
         HOST_WRITE => {

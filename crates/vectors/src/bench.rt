@@ -26,7 +26,7 @@ pub struct Bench {
 
 // The bench before the first call.
 pub(crate) fn first() -> Bench {
-    let access = host::fresh_state(1);
+    let access = fresh::fresh_state(1);
     let state = access.state;
     start(state)
 }
@@ -80,7 +80,7 @@ fn mode_named(name: u64) -> Mode {
 }
 
 fn fresh(head: Head) -> Bench {
-    let access = host::fresh_state(words::byte(head.w1.decimal));
+    let access = fresh::fresh_state(words::byte(head.w1.decimal));
     let state = access.state;
     let outcome = access.outcome;
     show_outcome(outcome);

@@ -1,8 +1,8 @@
 -- Assumes nothing.
 use Rattle.registers.specs.Access.{blankState}
 use mathlib.Core.Path.{refl}
-use Rattle.host.proofs.access.blank_state.Statement.{statement}
-use Rattle.host.proofs.access.blank_state.Tie as tie
+use Rattle.fresh.proofs.blank_state.Statement.{statement}
+use Rattle.fresh.proofs.blank_state.Tie as tie
 
 returns : tie.Need-returns
 unfolding blankState

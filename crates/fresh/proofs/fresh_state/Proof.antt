@@ -1,10 +1,10 @@
 -- Assumes nothing.
 use mathlib.Core.Path.{_∙_}
 use Rattle.registers.proofs.AccessLaws.{begins}
-use Rattle.host.proofs.Outcomes.{fresh-as}
+use Rattle.fresh.proofs.Outcomes.{fresh-as}
 use borrow.Author.Needs.{needs}
-use Rattle.host.proofs.access.fresh_state.Statement.{statement}
-use Rattle.host.proofs.access.fresh_state.Tie as tie
+use Rattle.fresh.proofs.fresh_state.Statement.{statement}
+use Rattle.fresh.proofs.fresh_state.Tie as tie
 
 returns : tie.Need-returns
 returns c = begins _ (simp (c .before .blank-state .ensures, c .fresh-outcome .ensures) (fresh-as _))

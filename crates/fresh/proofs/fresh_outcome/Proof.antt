@@ -1,17 +1,14 @@
 -- Assumes nothing.
 use mathlib.Core.Path.{sym, _∙_}
 use borrow.Author.Tests.{not-true, not-false}
-use Rattle.host.specs.Inside.{freshOutcome}
 use borrow.Author.Needs.{needs}
-use Rattle.host.proofs.access.fresh_outcome.Statement.{statement}
-use Rattle.host.proofs.access.fresh_outcome.Tie as tie
+use Rattle.fresh.proofs.fresh_outcome.Statement.{statement}
+use Rattle.fresh.proofs.fresh_outcome.Tie as tie
 
 returns : tie.Need-returns
-unfolding freshOutcome
 returns c = simp (sym (c .before .known-family .ensures) ∙ not-true _ (c .if1 .taken))
 
 returns-2 : tie.Need-returns-2
-unfolding freshOutcome
 returns-2 c = simp (sym (c .before .known-family .ensures) ∙ not-false _ (c .if1 .left))
 
 pub fresh-outcome-spec : {M : Type 1} → statement M
