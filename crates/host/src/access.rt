@@ -15,6 +15,7 @@ use crate::status::bit_if;
 use crate::status::status_word;
 use crate::triggers::after_trigger;
 use crate::triggers::is_start;
+use execution::some_slot_executes;
 use isa::MmioAddress;
 use refusals::Inaccessible;
 use registers::Access;
@@ -22,7 +23,6 @@ use registers::Outcome;
 use registers::Reading;
 use registers::Register;
 use state::State;
-use state::some_slot_executes;
 
 // The state after a word is written to a register that takes one.
 fn after_write(mut state: State, register: Register, word: u32) -> State

@@ -11,7 +11,7 @@ use Rattle.state.specs.declared.slots.Slot.{Slot}
 use Rattle.state.specs.declared.slots.SlotName.{SlotName}
 use Rattle.state.specs.declared.state.State.{State}
 use Rattle.registers.specs.Access.{readOf}
-use Rattle.state.specs.Execution.{executes}
+use Rattle.execution.specs.Execution.{executingSlot}
 use Rattle.registers.specs.declared.access.Reading.{Reading}
 use Rattle.verdict.specs.Auditor.{auditOf}
 use Rattle.run.specs.Replay.{toldOf, replayedRun}
@@ -23,9 +23,6 @@ use Rattle.records.specs.Job.{rangesOf, clocksOf, knownOf, valuesOf}
 use Rattle.records.specs.declared.contents.Job.{Job}
 
 -- the slot that executes: a job without fault has one, and while one does, no other can be started
-abbrev pub executingSlot : State → SlotName
-executingSlot s = cond (executes s SlotName.A) SlotName.A SlotName.B
-
 abbrev pub executing : State → Slot
 executing s = slotOf s (executingSlot s)
 

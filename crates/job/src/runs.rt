@@ -9,8 +9,9 @@ ghost use Rattle.run.specs.Replay.{Replays};
 ghost use Rattle.log.specs.Validity.{maxRows};
 ghost use Rattle.script.specs.Input.{maxRanges};
 ghost use Rattle.records.specs.Job.{CountsFit};
-ghost use Rattle.job.specs.Script.{executingSlot, verdictOf, modeOf, stateAfter, wordOf, statusOf};
+ghost use Rattle.job.specs.Script.{verdictOf, modeOf, stateAfter, wordOf, statusOf};
 ghost use Rattle.job.specs.Inside.{RunsJob};
+use execution::executing_slot;
 use flags::Flags;
 use isa::MmioAddress;
 use records::Job;
@@ -20,23 +21,11 @@ use run::ReplayAnswer;
 use run::Replayed;
 use state::Mode;
 use state::Slot;
-use state::SlotName;
 use state::State;
 use verdict::Verdict;
 
 // The address of STATUS.
 const STATUS: u32 = 0x001308;
-
-// The slot that executes.
-fn executing_slot(state: State) -> SlotName
-    ensures { λ r. ⌜ r ≡ executingSlot state ⌝ }
-{
-    if state::executes(state, SlotName::A) {
-        SlotName::A
-    } else {
-        SlotName::B
-    }
-}
 
 // The verdict on the script in a family's part of these bytes.
 fn audit_code(

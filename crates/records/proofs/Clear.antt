@@ -7,7 +7,7 @@ use native.Mathlib.Omega.{arith}
 use lib.Dec.{ltb}
 use lib.ListN.{length}
 use borrow.Author.Tests.{ltb-true, ltb-false, leb-false, eq-eqb, ne-eqb, not-false}
-use Rattle.state.specs.Execution.{someSlotExecutes}
+use Rattle.execution.specs.Execution.{someSlotExecutes}
 use Rattle.isa.proofs.Tests.{both-left, both-right}
 use Rattle.state.specs.declared.state.State.{State}
 use Rattle.records.specs.Inside.{HasRoom}

@@ -7,7 +7,7 @@ use lib.Dec.{ltb, eqb}
 use lib.ListN.{length, drop}
 use Rattle.records.specs.Job.{emptyJob, afterRecord, CountsFit, clocksOf, knownOf, valuesOf}
 use Rattle.log.specs.Validity.{validLog}
-use Rattle.state.specs.Execution.{someSlotExecutes}
+use Rattle.execution.specs.Execution.{someSlotExecutes}
 use Rattle.records.specs.Records.{end, kindOf}
 use Rattle.records.specs.Refusals.{refusalOf}
 use Rattle.records.specs.Words.{byteAt}

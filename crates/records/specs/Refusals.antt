@@ -8,7 +8,7 @@ use lib.ListN.{length}
 use Rattle.families.specs.Family.{knownFamily}
 use Rattle.log.specs.Validity.{clocksInRange}
 use Rattle.registers.specs.Access.{writeOf}
-use Rattle.state.specs.Execution.{someSlotExecutes}
+use Rattle.execution.specs.Execution.{someSlotExecutes}
 use Rattle.registers.specs.Promises.{outcomeNumber}
 use Rattle.state.specs.declared.state.State.{State}
 use Rattle.records.specs.Job.{countOf}

@@ -89,7 +89,7 @@ fn has_bytes_after(rest: &[u8]) -> bool
 pub(crate) fn ends_idle(rest: &[u8], state: State) -> bool
     ensures { λ r. ⌜ r ≡ endsIdle (now (rest .entry)) state ⌝ }
 {
-    byte_at(rest, 0) == END && !state::some_slot_executes(state)
+    byte_at(rest, 0) == END && !execution::some_slot_executes(state)
 }
 
 // The number of the first test that the record at the start of rest fails, 0 where it passes all. What the state says of it,

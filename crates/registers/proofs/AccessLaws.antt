@@ -14,7 +14,7 @@ use Rattle.state.specs.declared.slots.SlotName.{SlotName}
 use Rattle.state.specs.declared.state.State.{State}
 use Rattle.registers.specs.Access.{freshOf, afterWrite, isAbort, isTaken, writeOf, readingOf, readOf}
 use Rattle.registers.specs.Code.{afterUpload}
-use Rattle.state.specs.Execution.{someSlotExecutes}
+use Rattle.execution.specs.Execution.{someSlotExecutes}
 use Rattle.registers.specs.Promises.{outcomeNumber, readingNumber, freshRefusal, writeRefusal, isReadable, readRefusal, keptBits, Unmoved, Spares, Stops, Begins, HostWrites, HostReads}
 use Rattle.registers.specs.Register.{triggerAt, registerAt, isWritable}
 use Rattle.registers.specs.Trigger.{isStart, slotNamed, aborted, afterTrigger}

@@ -15,7 +15,7 @@ use Rattle.state.specs.declared.slots.SlotName.{SlotName}
 use Rattle.state.specs.declared.state.State.{State}
 use Rattle.registers.specs.Code.{afterUpload, codeWord}
 use Rattle.registers.specs.Entry.{entryBits}
-use Rattle.state.specs.Execution.{someSlotExecutes}
+use Rattle.execution.specs.Execution.{someSlotExecutes}
 use Rattle.registers.specs.Register.{triggerAt, registerAt, isWritable}
 use Rattle.registers.specs.Status.{bitIf, statusWord}
 use Rattle.registers.specs.Trigger.{isStart, afterTrigger}

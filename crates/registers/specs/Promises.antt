@@ -13,7 +13,7 @@ use Rattle.state.specs.declared.state.State.{State}
 use Rattle.registers.specs.Access.{freshOf, writeOf, readOf, isAbort}
 use Rattle.refusals.specs.Number.{inaccessibleNumber}
 use Rattle.registers.specs.Entry.{entryBits}
-use Rattle.state.specs.Execution.{someSlotExecutes}
+use Rattle.execution.specs.Execution.{someSlotExecutes}
 use Rattle.registers.specs.Register.{triggerAt, registerAt, isWritable}
 use Rattle.registers.specs.Trigger.{isStart, slotNamed}
 use Rattle.registers.specs.declared.access.Access.{Access}

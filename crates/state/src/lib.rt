@@ -1,10 +1,7 @@
-// The state that host and scripts share, its two slots, and whether one executes.
-mod execution;
+// The state that host and scripts share, and its two slots.
 mod slots;
 mod state;
 
-pub use execution::executes;
-pub use execution::some_slot_executes;
 pub use slots::Mode;
 pub use slots::Slot;
 pub use slots::SlotName;

@@ -7,7 +7,7 @@ use mathlib.Core.List.{List}
 use mathlib.Core.Logic.{⊎-elim}
 use native.Mathlib.Omega.{arith}
 use lib.ListN.{length, take, drop, length-drop}
-use Rattle.state.specs.Execution.{someSlotExecutes}
+use Rattle.execution.specs.Execution.{someSlotExecutes}
 use Rattle.log.specs.Validity.{rowsInRange}
 use Rattle.records.specs.Words.{byteAt}
 use Rattle.records.specs.Records.{kindOf}

@@ -1,8 +1,8 @@
 -- Assumes nothing.
 use mathlib.Core.Path.{sym, _∙_}
 use borrow.Author.Needs.{needs}
-use Rattle.state.proofs.execution.some_slot_executes.Statement.{statement}
-use Rattle.state.proofs.execution.some_slot_executes.Tie as tie
+use Rattle.execution.proofs.some_slot_executes.Statement.{statement}
+use Rattle.execution.proofs.some_slot_executes.Tie as tie
 
 returns : tie.Need-returns
 returns c = c .if1 .taken ∙ simp (sym (c .before .executes .ensures) ∙ c .if1 .taken)

@@ -1,8 +1,8 @@
 -- Assumes nothing.
 use mathlib.Core.Path.{sym, _∙_}
 use borrow.Author.Needs.{needs}
-use Rattle.state.proofs.execution.executes.Statement.{statement}
-use Rattle.state.proofs.execution.executes.Tie as tie
+use Rattle.execution.proofs.executes.Statement.{statement}
+use Rattle.execution.proofs.executes.Tie as tie
 
 returns : tie.Need-returns
 returns c = simp (sym (c .before .before .has-slot .ensures) ∙ c .before .if1 .taken, c .is-idle .ensures, c .before .before .before .slot-of .ensures)

@@ -1,8 +1,8 @@
 -- Assumes nothing.
 use mathlib.Core.Path.{sym, _∙_}
 use borrow.Author.Needs.{needs}
-use Rattle.job.proofs.runs.executing_slot.Statement.{statement}
-use Rattle.job.proofs.runs.executing_slot.Tie as tie
+use Rattle.execution.proofs.executing_slot.Statement.{statement}
+use Rattle.execution.proofs.executing_slot.Tie as tie
 
 returns : tie.Need-returns
 returns c = simp (sym (c .before .executes .ensures) ∙ c .if1 .taken)

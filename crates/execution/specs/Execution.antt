@@ -1,0 +1,17 @@
+-- Which slots execute (01, "Host registers" and "Four card families").
+use mathlib.Core.Bool.{Bool, cond, not, _&&_, _||_}
+use Rattle.state.specs.Slot.{hasSlot, isIdle, slotOf}
+use Rattle.state.specs.declared.slots.Slot.{Slot}
+use Rattle.state.specs.declared.slots.SlotName.{SlotName}
+use Rattle.state.specs.declared.state.State.{State}
+
+-- a slot executes unless it is idle; one that the family lacks never does
+abbrev pub executes : State → SlotName → Bool
+executes s name = hasSlot (s .family) name && not (isIdle (slotOf s name .mode))
+
+abbrev pub someSlotExecutes : State → Bool
+someSlotExecutes s = executes s SlotName.A || executes s SlotName.B
+
+-- the slot that executes: A where it does, and else B
+abbrev pub executingSlot : State → SlotName
+executingSlot s = cond (executes s SlotName.A) SlotName.A SlotName.B
