@@ -36,7 +36,7 @@ fn after_write(mut state: State, register: Register, word: u32) -> State
         }
         Register::EntryPoint => state.entries = word,
         Register::Status => {}
-        Register::Trigger => state = after_trigger(state, word),
+        Register::Trigger => return after_trigger(state, word),
         Register::Flags0 => {
             let flags = state.flags;
             state.flags = flags::flags_from_words(word, flags::flags_word_1(flags));
@@ -46,7 +46,7 @@ fn after_write(mut state: State, register: Register, word: u32) -> State
             state.flags = flags::flags_from_words(flags::flags_word_0(flags), word);
         }
         Register::EntryPointHigh => state.entries_high = entry_bits(word),
-        Register::Code(at) => state = after_upload(state, at.0, word),
+        Register::Code(at) => return after_upload(state, at.0, word),
         Register::Events => {}
         Register::Unlisted => {}
     }

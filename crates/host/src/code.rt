@@ -1,41 +1,26 @@
 // Code RAM as the host sees it: words of four bytes, the lowest byte first.
 ghost use mathlib.Core.Path.{_≡_};
 ghost use Prim.Native.Nat.{_+_, _*_, _≤_};
-ghost use lib.Seq.{sets};
-ghost use Rattle.isa.specs.Writer.{leBytes};
 ghost use Rattle.registers.specs.Code.{codeWord, afterUpload};
 ghost use Rattle.host.specs.Inside.{byteIn};
 use state::State;
-
-// A mark for each byte of a word.
-const MARKS: u32 = 0x01010101;
-
-// The bytes with those of a word from a place on.
-fn with_word(mut bytes: [u8; 512], at: usize, word: u32) -> [u8; 512]
-    requires { ⌜ at + 4 ≤ 512 ⌝ }
-    ensures { λ r. ⌜ r ≡ sets bytes at (leBytes 4 word) ⌝ }
-{
-    let second = word / 256;
-    let third = second / 256;
-    let fourth = third / 256;
-    bytes[at] = (word % 256) as u8;
-    bytes[at + 1] = (second % 256) as u8;
-    bytes[at + 2] = (third % 256) as u8;
-    bytes[at + 3] = (fourth % 256) as u8;
-    bytes
-}
 
 // The state with four bytes uploaded from a place on.
 pub(crate) fn after_upload(mut state: State, at: usize, word: u32) -> State
     requires { ⌜ at + 4 ≤ 512 ⌝ }
     ensures { λ r. ⌜ r ≡ afterUpload state at word ⌝ }
 {
-    let code = state.code;
-    let marks = state.marks;
-    let uploaded = with_word(code, at, word);
-    let marked = with_word(marks, at, MARKS);
-    state.code = uploaded;
-    state.marks = marked;
+    let second = word / 256;
+    let third = second / 256;
+    let fourth = third / 256;
+    state.code[at] = (word % 256) as u8;
+    state.code[at + 1] = (second % 256) as u8;
+    state.code[at + 2] = (third % 256) as u8;
+    state.code[at + 3] = (fourth % 256) as u8;
+    state.marks[at] = 1;
+    state.marks[at + 1] = 1;
+    state.marks[at + 2] = 1;
+    state.marks[at + 3] = 1;
     state
 }
 
