@@ -1,9 +1,6 @@
 -- What private functions cite; no public contract does.
 use Prim.Native.Nat.{ℕ}
 use mathlib.Core.Bool.{Bool, cond}
-use mathlib.Core.List.{List}
-use lib.Dec.{eqb}
-use lib.ListN.{getD}
 use Rattle.families.specs.Family.{knownFamily}
 use Rattle.refusals.specs.declared.refusals.Inaccessible.{Inaccessible}
 use Rattle.registers.specs.Register.{isWritable}
@@ -20,7 +17,3 @@ writeOutcome family register taken =
     (Outcome.Refused Inaccessible.Executing))
     (Outcome.Refused Inaccessible.Register))
     (Outcome.Refused Inaccessible.Family)
-
--- a byte of code RAM as it reads, of the code and its marks alone
-abbrev pub byteIn : List ℕ → List ℕ → ℕ → ℕ
-byteIn code marks at = cond (eqb (getD marks at 0) 1) (getD code at 0) 0

@@ -1,8 +1,7 @@
 // Code RAM as the host sees it: words of four bytes, the lowest byte first.
 ghost use mathlib.Core.Path.{_≡_};
 ghost use Prim.Native.Nat.{_+_, _*_, _≤_};
-ghost use Rattle.registers.specs.Code.{codeWord, afterUpload};
-ghost use Rattle.host.specs.Inside.{byteIn};
+ghost use Rattle.registers.specs.Code.{byteIn, codeWord, afterUpload};
 use state::State;
 
 // The state with four bytes uploaded from a place on.

@@ -20,8 +20,11 @@ unfoldable pub afterUpload : State → ℕ → ℕ → State
 afterUpload s at word = withCode s (sets (s .code) at (leBytes 4 word)) (sets (s .marks) at fourMarks)
 
 -- a byte reads as it was uploaded, and as 0 where it never was, whatever stands there
+abbrev pub byteIn : List ℕ → List ℕ → ℕ → ℕ
+byteIn code marks at = cond (eqb (getD marks at 0) 1) (getD code at 0) 0
+
 unfoldable pub uploadedByte : State → ℕ → ℕ
-uploadedByte s at = cond (eqb (getD (s .marks) at 0) 1) (getD (s .code) at 0) 0
+uploadedByte s at = byteIn (s .code) (s .marks) at
 
 abbrev pub codeWord : State → ℕ → ℕ
 codeWord s at = uploadedByte s at + 256 * uploadedByte s (at + 1) + 65536 * uploadedByte s (at + 2) + 16777216 * uploadedByte s (at + 3)

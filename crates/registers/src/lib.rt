@@ -1,4 +1,4 @@
-// The host's registers: where each stands, what a write does and what a read gives. Definitions and their laws alone; host has the calls.
+// The host's registers: where each stands, what a write does and what a read gives. Definitions and their laws alone; fresh and host have the calls.
 mod access;
 mod registers;
 

@@ -40,6 +40,15 @@ in-order true true false told = refl
 in-order true true true told = refl
 
 module _ (family : ℕ) (code marks : List ℕ) (entry addr word flags0 flags1 : ℕ) (enable : Bool) (clocks known values : List ℕ) where
+  -- each refusal has its number
+  pub replay-numbered : (lent : ℕ)
+      → answerNumber (replayOf family code marks entry addr word flags0 flags1 enable clocks known values lent)
+      ≡ replayRefusal family code marks entry addr word flags0 flags1 enable clocks known values lent
+  unfolding replayOf replayRefusal
+  replay-numbered lent =
+      in-order (scriptFits family code marks entry) (leb 340 lent) (validLog clocks known values)
+      (toldOf SlotName.A clocks (replayedRun family code marks entry addr word flags0 flags1 enable clocks known values))
+
   -- a slot that still runs at the end is one that the next step stops, and the sums make the log's total
   pub replay-ends : scriptFits family code marks entry ≡ true → validLog clocks known values ≡ true
       → EndsRight family code marks entry addr word flags0 flags1 enable clocks known values
@@ -63,12 +72,3 @@ module _ (family : ℕ) (code marks : List ℕ) (entry addr word flags0 flags1 :
     where
       P : ReplayAnswer → Type 0
       P answer = EndsRight family code marks entry addr word flags0 flags1 enable clocks known values answer
-
-  -- and each refusal has its number
-  pub replay-numbered : (lent : ℕ)
-      → answerNumber (replayOf family code marks entry addr word flags0 flags1 enable clocks known values lent)
-      ≡ replayRefusal family code marks entry addr word flags0 flags1 enable clocks known values lent
-  unfolding replayOf replayRefusal
-  replay-numbered lent =
-      in-order (scriptFits family code marks entry) (leb 340 lent) (validLog clocks known values)
-      (toldOf SlotName.A clocks (replayedRun family code marks entry addr word flags0 flags1 enable clocks known values))

@@ -18,17 +18,22 @@ module _ (name : SlotName) (clocks known values : List ℕ) where
   pub next-promises : (r : Run) → Steps (r .state) name clocks known values (r .place) (nextStep name clocks known values r)
   next-promises r = steps (r .state) name clocks known values (r .place) refl
 
+  -- a step is handed the state and the place that the last one returned
+  step-handed : (r : Run) → let t = nextStep name clocks known values r in (noted r t .state ≡ t .state) × (noted r t .place ≡ t .place)
+  step-handed r = (refl, refl)
+
+  -- a run's first step
+  pub run-suc : (n : ℕ) (r : Run) → runFor name clocks known values (suc n) r ≡ runFor name clocks known values n (noted r (nextStep name clocks known values r))
+  unfolding runFor
+  run-suc n r = refl
+
   -- what every step keeps, every run keeps
   pub run-elim : (P : Run → Type 0) → ((r : Run) → P r → P (noted r (nextStep name clocks known values r))) → (n : ℕ) (r : Run) → P r → P (runFor name clocks known values n r)
   unfolding runFor
   run-elim P step zero r h = h
   run-elim P step (suc n) r h = run-elim P step n (noted r (nextStep name clocks known values r)) (step r h)
 
-  -- a run's first step, and its last
-  pub run-suc : (n : ℕ) (r : Run) → runFor name clocks known values (suc n) r ≡ runFor name clocks known values n (noted r (nextStep name clocks known values r))
-  unfolding runFor
-  run-suc n r = refl
-
+  -- and its last
   pub run-snoc : (n : ℕ) (r : Run)
       → runFor name clocks known values (suc n) r ≡ noted (runFor name clocks known values n r) (nextStep name clocks known values (runFor name clocks known values n r))
   unfolding runFor
