@@ -2,8 +2,8 @@
 ghost use mathlib.Core.Path.{_≡_};
 ghost use Rattle.ewaits.specs.Ewait.{hasReading, Ewaits};
 use crate::row::mask_at;
-use crate::row::unused;
 use log::Place;
+use waits::unused;
 
 // Where the search ended, and the clocks that it passed by.
 pub enum Released {

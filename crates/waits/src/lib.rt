@@ -4,5 +4,6 @@ mod row;
 mod wait;
 
 pub use left::clocks_left;
+pub use row::unused;
 pub use wait::Waited;
 pub use wait::clock_wait;

@@ -1,4 +1,4 @@
-// What of a row is unused.
+// What of a row is unused: nothing of one that is used up.
 ghost use mathlib.Core.Path.{_≡_};
 ghost use Prim.Native.Nat.{_-_};
 
