@@ -13,6 +13,13 @@ use Rattle.actions.proofs.clocks.wait_clocks.Tie as tie
 fits : (c : tie.Then1) → waitFits (c .before .before .args .length) (c .before .before .args .shift) ≡ true
 fits c = sym (c .before .wait-fits .ensures) ∙ c .if1 .taken
 
+returns : tie.Need-returns
+unfolding waitClocks
+returns c =
+    let a = c .before .before .args in
+    let e = exact (a .length) (a .shift) (fits c) in
+    rw (fits c) (ap (λ (n : ℕ). n * 32) e)
+
 mul-result : tie.Need-mul-result
 mul-result c = omega (arith, wait-fits (c .before .before .args .length) (c .before .before .args .shift) (fits c))
 
@@ -24,13 +31,6 @@ mul-result-2 c =
     let a = c .before .before .args in
     let e = exact (a .length) (a .shift) (fits c) in
     record { fits = omega (arith, e, most (a .length) (a .shift) (fits c)) }
-
-returns : tie.Need-returns
-unfolding waitClocks
-returns c =
-    let a = c .before .before .args in
-    let e = exact (a .length) (a .shift) (fits c) in
-    rw (fits c) (ap (λ (n : ℕ). n * 32) e)
 
 returns-2 : tie.Need-returns-2
 unfolding waitClocks
