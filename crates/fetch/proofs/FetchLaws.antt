@@ -17,23 +17,7 @@ use Rattle.isa.specs.declared.reader.Decoded.{Decoded}
 use Rattle.refusals.specs.declared.refusals.Unreadable.{Unreadable}
 use Rattle.isa.proofs.Reading.{same-read}
 use Rattle.fetch.specs.Fetch.{codeRam, allMarked, checkMarks, fetchOf}
-use Rattle.fetch.proofs.Marks.{marked-at}
-
--- what the check of the marks leaves of what was read
-read-checked : (k : Opcode) (bytes marks : List ℕ) (at : ℕ)
-    → checkMarks marks at (readAs k bytes)
-    ≡ cond (isUnknown k) (Decoded.Refused Unreadable.Unknown) (cond (allMarked (sizeOf k) marks at) (readAs k bytes) (Decoded.Refused Unreadable.NotUploaded))
-read-checked Opcode.Wait bytes marks at = refl
-read-checked Opcode.AddrLo bytes marks at = refl
-read-checked Opcode.DataLo bytes marks at = refl
-read-checked Opcode.Ewait bytes marks at = refl
-read-checked Opcode.Exit bytes marks at = refl
-read-checked Opcode.Unset bytes marks at = refl
-read-checked Opcode.Set1 bytes marks at = refl
-read-checked Opcode.Set0 bytes marks at = refl
-read-checked Opcode.Addr bytes marks at = refl
-read-checked Opcode.Data bytes marks at = refl
-read-checked Opcode.Unknown bytes marks at = refl
+use Rattle.fetch.proofs.Marks.{marked-at, read-checked}
 
 -- equal tests, and equal answers where they hold
 same-test : {b b′ : Bool} {d d′ : Decoded} (why : Unreadable) → b ≡ b′ → (b ≡ true → d ≡ d′) → cond b d (Decoded.Refused why) ≡ cond b′ d′ (Decoded.Refused why)
@@ -111,7 +95,7 @@ module _ (family : ℕ) (code marks code′ marks′ : List ℕ) (room : codeSiz
   pub same-fetch : (at : ℕ) → fetchOf family code′ marks′ at ≡ fetchOf family code marks at
   unfolding fetchOf
   same-fetch at =
-      same-test Unreadable.Empty (ap (ltb at) (size′ ∙ sym size))
+      same-test _ (ap (ltb at) (size′ ∙ sym size))
       (λ l. let h : at < codeSize family = omega (arith, size′, ltb-true at (length ram′) l) in
-      same-test Unreadable.NotUploaded (same-marks at h)
+      same-test _ (same-marks at h)
       (λ m. same-decoded at h (eqb-true (getD marks at 0) 1 (sym (same-marks at h) ∙ m))))

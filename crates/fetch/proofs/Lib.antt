@@ -1,3 +1,4 @@
 pub mod Marks
 pub mod Places
+pub mod Numbers
 pub mod FetchLaws

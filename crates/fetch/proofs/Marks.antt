@@ -1,15 +1,20 @@
 -- Upload marks, one byte at a time. Assumes nothing.
 use Prim.Native.Nat.{ℕ, zero, suc, _+_, _-_, _≤_, _<_}
 use mathlib.Core.Path.{_≡_, refl, sym, _∙_}
-use mathlib.Core.Bool.{true, false, _&&_}
+use mathlib.Core.Bool.{true, false, cond, _&&_}
 use mathlib.Core.List.{List}
 use native.Mathlib.Omega.{arith}
 use native.Mathlib.Decide.{decLt}
 use lib.ListN.{length, getD, List·getD-eq-default}
 use lib.Dec.{eqb}
 use borrow.Author.Tests.{eq-eqb, ne-eqb, eqb-true}
+use Rattle.isa.specs.Opcode.{sizeOf, isUnknown}
+use Rattle.isa.specs.Reader.{readAs}
+use Rattle.isa.specs.declared.opcodes.Opcode.{Opcode}
+use Rattle.isa.specs.declared.reader.Decoded.{Decoded}
+use Rattle.refusals.specs.declared.refusals.Unreadable.{Unreadable}
 use Rattle.isa.proofs.Tests.{both-left, both-right}
-use Rattle.fetch.specs.Fetch.{allMarked}
+use Rattle.fetch.specs.Fetch.{allMarked, checkMarks}
 
 -- a byte that has a mark lies within the marks
 pub marked-within : (marks : List ℕ) (i : ℕ) → getD marks i 0 ≡ 1 → i < length marks
@@ -54,3 +59,19 @@ marked-at (suc n) marks i e zero h =
 marked-at (suc n) marks i e (suc j) h =
     let z : i + suc j ≡ i + 1 + j = omega arith in
     rw z (marked-at n marks (i + 1) (both-right (eqb (getD marks i 0) 1) (allMarked n marks (i + 1)) e) j (omega arith))
+
+-- what the check of the marks leaves of what was read
+pub read-checked : (k : Opcode) (bytes marks : List ℕ) (at : ℕ)
+    → checkMarks marks at (readAs k bytes)
+    ≡ cond (isUnknown k) (Decoded.Refused Unreadable.Unknown) (cond (allMarked (sizeOf k) marks at) (readAs k bytes) (Decoded.Refused Unreadable.NotUploaded))
+read-checked Opcode.Wait bytes marks at = refl
+read-checked Opcode.AddrLo bytes marks at = refl
+read-checked Opcode.DataLo bytes marks at = refl
+read-checked Opcode.Ewait bytes marks at = refl
+read-checked Opcode.Exit bytes marks at = refl
+read-checked Opcode.Unset bytes marks at = refl
+read-checked Opcode.Set1 bytes marks at = refl
+read-checked Opcode.Set0 bytes marks at = refl
+read-checked Opcode.Addr bytes marks at = refl
+read-checked Opcode.Data bytes marks at = refl
+read-checked Opcode.Unknown bytes marks at = refl

@@ -96,7 +96,7 @@ fetch-inside family code marks at b =
 pub size-small : (family : ℕ) → codeSize family ≤ 512
 size-small family = by-family-elim (λ (n : ℕ). n ≤ 512) family 64 128 256 512 (omega arith) (omega arith) (omega arith) (omega arith) (λ _. omega arith)
 
-ram-most : (family : ℕ) (code : List ℕ) → length (codeRam family code) ≤ codeSize family
+pub ram-most : (family : ℕ) (code : List ℕ) → length (codeRam family code) ≤ codeSize family
 ram-most family code = omega (arith, length-take (codeSize family) code)
 
 pub ram-small : (family : ℕ) (code : List ℕ) → length (codeRam family code) ≤ 512

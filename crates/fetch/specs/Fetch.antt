@@ -2,12 +2,13 @@
 -- operands 1, 2).
 use Prim.Native.Nat.{ℕ, zero, suc, _+_, _<_, _≤_}
 use mathlib.Core.Path.{_≡_}
-use mathlib.Core.Bool.{Bool, true, cond, _&&_}
+use mathlib.Core.Bool.{Bool, true, cond, not, _&&_}
 use mathlib.Core.List.{List}
 use lib.ListN.{length, getD, take, drop}
-use lib.Dec.{ltb, eqb}
+use lib.Dec.{leb, ltb, eqb}
 use Rattle.families.specs.Family.{codeSize}
-use Rattle.isa.specs.Reader.{decodeOf}
+use Rattle.isa.specs.Opcode.{opcodeAt, sizeOf, isUnknown}
+use Rattle.isa.specs.Reader.{decodeOf, decodedNumber}
 use Rattle.isa.specs.Writer.{operandsFit}
 use Rattle.isa.specs.declared.instructions.Instruction.{Instruction}
 use Rattle.isa.specs.declared.reader.Decoded.{Decoded}
@@ -37,6 +38,19 @@ fetchOf family code marks at =
     (Decoded.Refused Unreadable.NotUploaded))
     (Decoded.Refused Unreadable.Empty)
 
+-- which number its answer must have: the opcode past the code RAM (1), never uploaded (2) or unknown (3), then an operand past the code RAM (1) or never
+-- uploaded (2), tested in this order; a family that there is not has no code RAM
+unfoldable pub fetchRefusal : ℕ → List ℕ → List ℕ → ℕ → ℕ
+fetchRefusal family code marks at =
+    let ram = codeRam family code in
+    let opcode = opcodeAt family (getD ram at 0) in
+    cond (leb (length ram) at) 1
+    (cond (not (eqb (getD marks at 0) 1)) 2
+    (cond (isUnknown opcode) 3
+    (cond (ltb (length ram) (at + sizeOf opcode)) 1
+    (cond (not (allMarked (sizeOf opcode) marks at)) 2
+    0))))
+
 -- why nothing was fetched; an instruction has no reason, and stands for an empty place
 abbrev pub reasonOf : Decoded → Unreadable
 reasonOf (Decoded.Instruction instruction n) = Unreadable.Empty
@@ -46,7 +60,7 @@ reasonOf (Decoded.Refused why) = why
 abbrev pub pastOpcode : ℕ → ℕ
 pastOpcode at = cond (ltb at 512) (at + 1) at
 
--- a fetched instruction lies in the code RAM, takes 1 to 5 bytes, and its operands are ones that a byte can hold
+-- a fetched instruction lies in the code RAM, takes 1 to 5 bytes, and has no length above 3, shift above 15 or flag above 31
 abbrev pub Inside : ℕ → List ℕ → ℕ → Decoded → Type 0
 Inside family code at (Decoded.Instruction instruction n) =
     (0 < n) × (n ≤ 5) × (at + n ≤ length (codeRam family code)) × (operandsFit instruction ≡ true)
@@ -54,4 +68,5 @@ Inside family code at (Decoded.Refused why) = Unit {0}
 
 pub record Fetches (family : ℕ) (code marks : List ℕ) (at : ℕ) (answer : Decoded) : Type 0 where
   pub answered : answer ≡ fetchOf family code marks at
+  pub numbered : decodedNumber answer ≡ fetchRefusal family code marks at
   pub inside : Inside family code at answer

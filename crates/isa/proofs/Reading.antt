@@ -50,7 +50,7 @@ same-read Opcode.Unknown bytes other h = refl
 
 -- ---- the refusals' numbers
 
-read-number : (k : Opcode) (bs : List ℕ) → decodedNumber (readAs k bs) ≡ cond (isUnknown k) 3 0
+pub read-number : (k : Opcode) (bs : List ℕ) → decodedNumber (readAs k bs) ≡ cond (isUnknown k) 3 0
 read-number Opcode.Wait bs = refl
 read-number Opcode.AddrLo bs = refl
 read-number Opcode.DataLo bs = refl
@@ -64,7 +64,7 @@ read-number Opcode.Data bs = refl
 read-number Opcode.Unknown bs = refl
 
 -- an opcode that takes more than a byte is a known one
-long-known : (k : Opcode) → 1 < sizeOf k → isUnknown k ≡ false
+pub long-known : (k : Opcode) → 1 < sizeOf k → isUnknown k ≡ false
 long-known Opcode.Wait h = refl
 long-known Opcode.AddrLo h = refl
 long-known Opcode.DataLo h = refl

@@ -1,10 +1,10 @@
 -- What the tests of the definitions give, from facts on numbers and back. Assumes nothing.
 use Prim.Native.Nat.{ℕ, _≤_}
-use mathlib.Core.Path.{_≡_, refl}
-use mathlib.Core.Bool.{Bool, true, false, cond, _&&_, and-eq-true-iff}
+use mathlib.Core.Path.{_≡_, refl, sym, _∙_}
+use mathlib.Core.Bool.{Bool, true, false, cond, _&&_, and-eq-true-iff, true≢false}
 use native.Mathlib.Omega.{arith}
 use lib.Dec.{leb, eqb}
-use borrow.Author.Tests.{le-leb, leb-true, eqb-false}
+use borrow.Author.Tests.{le-leb, leb-true, ne-eqb, eqb-false}
 use Rattle.families.specs.Family.{within, knownFamily, byFamily}
 
 pub both-left : (a b : Bool) → (a && b) ≡ true → a ≡ true
@@ -41,3 +41,11 @@ by-family-elim P family one two three four a b c d z =
     (λ n₂. cond-elim P (eqb family 3) (λ _. c)
     (λ n₃. cond-elim P (eqb family 4) (λ _. d)
     (λ n₄. z (outside 1 family 4 (λ l h. omega (arith, eqb-false family 1 n₁, eqb-false family 2 n₂, eqb-false family 3 n₃, eqb-false family 4 n₄)))))))
+
+-- a number that names no family has the value 0
+pub by-no-family : (family one two three four : ℕ) → knownFamily family ≡ false → byFamily family one two three four ≡ 0
+unfolding byFamily
+by-no-family family one two three four u = simp (differs 1 refl, differs 2 refl, differs 3 refl, differs 4 refl)
+  where
+    differs : (n : ℕ) → knownFamily n ≡ true → eqb family n ≡ false
+    differs n known = ne-eqb family n (λ e. true≢false (sym known ∙ rw (← e) u))

@@ -8,18 +8,19 @@ use lib.ListN.{length, take, drop, getD, length-take}
 use borrow.Author.Needs.{needs}
 use borrow.Author.Tests.{lt-ltb, le-ltb, eq-eqb, ne-eqb}
 use Rattle.families.specs.Family.{codeSize}
-use Rattle.isa.specs.Reader.{decodeOf}
+use Rattle.isa.specs.Reader.{decodeOf, decodedNumber}
 use Rattle.isa.specs.Codec.{OneSpelling}
 use Rattle.isa.specs.declared.reader.Decoded.{Decoded}
 use Rattle.refusals.specs.declared.refusals.Unreadable.{Unreadable}
 use Rattle.fetch.specs.Fetch.{codeRam, checkMarks, fetchOf, Inside, Fetches}
+use Rattle.fetch.proofs.Numbers.{fetch-numbered}
 use Rattle.fetch.proofs.Places.{part, inside-of}
 use Rattle.fetch.proofs.fetch.Statement.{statement}
 use Rattle.fetch.proofs.fetch.Tie as tie
 
 -- a refusal holds no instruction, so nothing of it has to lie in the RAM
 refused : {family : ℕ} {code marks : List ℕ} {at : ℕ} (why : Unreadable) → Decoded.Refused why ≡ fetchOf family code marks at → Fetches family code marks at (Decoded.Refused why)
-refused why e = record { answered = e; inside = tt }
+refused {family} {code} {marks} {at} why e = record { answered = e; numbered = ap decodedNumber e ∙ fetch-numbered family code marks at; inside = tt }
 
 returns : tie.Need-returns
 unfolding fetchOf
@@ -58,8 +59,11 @@ returns-3 c =
     let spelled : OneSpelling (a .family) (drop (a .at) r) (d .result) = rw e at (d .ensures .spelled-so) in
     let inside = inside-of (a .family) (now (a .code)) (now (a .marks)) (a .at) (d .result) (omega (arith, before-end (k .before .before))) spelled in
     let answer : c .check-marks .result ≡ checkMarks (now (a .marks)) (a .at) (d .result) = c .check-marks .ensures in
+    let answered : c .check-marks .result ≡ fetchOf (a .family) (now (a .code)) (now (a .marks)) (a .at) =
+    answer ∙ simp (lt-ltb (a .at) (length r) (before-end (k .before .before)), eq-eqb (getD (now (a .marks)) (a .at) 0) 1 (sym (k .before .mark .ensures) ∙ k .if2 .left), found) in
     record {
-      answered = answer ∙ simp (lt-ltb (a .at) (length r) (before-end (k .before .before)), eq-eqb (getD (now (a .marks)) (a .at) 0) 1 (sym (k .before .mark .ensures) ∙ k .if2 .left), found);
+      answered = answered;
+      numbered = ap decodedNumber answered ∙ fetch-numbered (a .family) (now (a .code)) (now (a .marks)) (a .at);
       inside = subst (Inside (a .family) (now (a .code)) (a .at)) (sym answer) inside;
     }
 
