@@ -1,12 +1,14 @@
--- What the auditor promises of its verdict: the defined one, its number, and demand 3 about it.
+-- What the auditor promises of its verdict: the defined one, its number, and demand 3 about it; and what that verdict is on the starred scripts.
 use Prim.Native.Nat.{ℕ}
 use mathlib.Core.Path.{_≡_}
 use mathlib.Core.List.{List}
 use Rattle.verdict.specs.Auditor.{verdictNumber, auditOf, auditNumber}
 use Rattle.verdict.specs.Demand3.{Demand3}
+use Rattle.verdict.specs.Starred.{Starred}
 use Rattle.verdict.specs.declared.verdicts.Verdict.{Verdict}
 
 pub record Audits (family : ℕ) (code marks : List ℕ) (entry : ℕ) (ranges : List ℕ) (answer : Verdict) : Type 0 where
   pub answered : answer ≡ auditOf family code marks entry ranges
   pub numbered : verdictNumber answer ≡ auditNumber family code marks entry ranges
   pub demand3 : Demand3 family code marks entry ranges answer
+  pub starred : Starred

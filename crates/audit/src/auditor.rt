@@ -2,6 +2,7 @@
 ghost use mathlib.Core.Path.{_≡_};
 ghost use mathlib.Core.Bool.{true};
 ghost use Rattle.families.specs.Family.{codeSize};
+ghost use Rattle.refusals.specs.Number.{unreadableNumber, faultNumber};
 ghost use Rattle.script.specs.Input.{inputFits};
 ghost use Rattle.verdict.specs.Auditor.{faultOf, knowNothing, verdictIn};
 ghost use Rattle.audit.specs.Promises.{Audits};
@@ -36,9 +37,10 @@ pub fn audit<'a>(
     walk(family, code, marks, entry, ranges)
 }
 
-// Why there is no instruction, as a fault.
+// Why there is no instruction, as the fault with the reader's number.
 fn fault_of(why: Unreadable) -> Fault
     ensures { λ r. ⌜ r ≡ faultOf why ⌝ }
+    ensures { λ r. ⌜ faultNumber r ≡ unreadableNumber why ⌝ }
 {
     match why {
         Unreadable::Family => Fault::Input,

@@ -13,7 +13,7 @@ use Rattle.state.specs.declared.slots.SlotName.{SlotName}
 use Rattle.state.specs.declared.state.State.{State}
 use Rattle.state.proofs.SlotLaws.{has-a}
 use Rattle.script.specs.Input.{scriptFits}
-use Rattle.run.specs.Replay.{replayState, endingOf, toldOf, fullSteps, replayedRun, answerNumber, replayOf, replayRefusal, EndsRight}
+use Rattle.run.specs.Replay.{maxEntries, replayState, endingOf, toldOf, fullSteps, replayedRun, answerNumber, replayOf, replayRefusal, EndsRight}
 use Rattle.run.specs.Run.{Run}
 use Rattle.run.specs.declared.answers.Ending.{Ending}
 use Rattle.run.specs.declared.answers.ReplayAnswer.{ReplayAnswer}
@@ -46,7 +46,7 @@ module _ (family : ℕ) (code marks : List ℕ) (entry addr word flags0 flags1 :
       ≡ replayRefusal family code marks entry addr word flags0 flags1 enable clocks known values lent
   unfolding replayOf replayRefusal
   replay-numbered lent =
-      in-order (scriptFits family code marks entry) (leb 340 lent) (validLog clocks known values)
+      in-order (scriptFits family code marks entry) (leb maxEntries lent) (validLog clocks known values)
       (toldOf SlotName.A clocks (replayedRun family code marks entry addr word flags0 flags1 enable clocks known values))
 
   -- a slot that still runs at the end is one that the next step stops, and the sums make the log's total
@@ -56,10 +56,11 @@ module _ (family : ℕ) (code marks : List ℕ) (entry addr word flags0 flags1 :
   replay-ends fits log =
       let s = replayState family code marks entry addr word flags0 flags1 enable in
       let r = replayedRun family code marks entry addr word flags0 flags1 enable clocks known values in
-      let known-family = fits-script family code marks entry fits .known in (
-        (λ e. stops SlotName.A clocks known values s known-family (has-a family known-family) log (stop-runs (slotOf (r .state) SlotName.A .mode) e)),
-        run-clocks clocks known values log SlotName.A s (fullSteps family),
-      )
+      let known-family = fits-script family code marks entry fits .known in
+      record {
+        stops = λ e. stops SlotName.A clocks known values s known-family (has-a family known-family) log (stop-runs (slotOf (r .state) SlotName.A .mode) e);
+        clocked = run-clocks clocks known values log SlotName.A s (fullSteps family);
+      }
 
   -- so does every answer of replay
   pub replay-ends-right : (lent : ℕ)
@@ -67,7 +68,7 @@ module _ (family : ℕ) (code marks : List ℕ) (entry addr word flags0 flags1 :
   unfolding replayOf
   replay-ends-right lent =
       cond-elim P (scriptFits family code marks entry)
-      (λ f. cond-elim P (leb 340 lent) (λ _. cond-elim P (validLog clocks known values) (λ l. replay-ends f l) (λ _. tt)) (λ _. tt))
+      (λ f. cond-elim P (leb maxEntries lent) (λ _. cond-elim P (validLog clocks known values) (λ l. replay-ends f l) (λ _. tt)) (λ _. tt))
       (λ _. tt)
     where
       P : ReplayAnswer → Type 0

@@ -85,6 +85,10 @@ fullSteps family = suc (codeSize family)
 abbrev pub fullRun : SlotName → List ℕ → List ℕ → List ℕ → State → Run
 fullRun name clocks known values s = runFor name clocks known values (fullSteps (s .family)) (begun s)
 
+-- the entries that must be lent: two for each of the 170 writes that a script can make at most
+abbrev pub maxEntries : ℕ
+maxEntries = 340
+
 -- the number that replay's answer stands for, 0 where it ran
 abbrev pub answerNumber : ReplayAnswer → ℕ
 answerNumber (ReplayAnswer.Ended told) = 0
@@ -99,7 +103,7 @@ module _ (family : ℕ) (code marks : List ℕ) (entry addr word flags0 flags1 :
   unfoldable pub replayOf : ℕ → ReplayAnswer
   replayOf lent =
       cond (scriptFits family code marks entry)
-      (cond (leb 340 lent)
+      (cond (leb maxEntries lent)
       (cond (validLog clocks known values)
       (ReplayAnswer.Ended (toldOf SlotName.A clocks replayedRun))
       (ReplayAnswer.Refused Unreplayable.Log))
@@ -110,7 +114,7 @@ module _ (family : ℕ) (code marks : List ℕ) (entry addr word flags0 flags1 :
   unfoldable pub replayRefusal : ℕ → ℕ
   replayRefusal lent =
       cond (not (scriptFits family code marks entry)) 9
-      (cond (not (leb 340 lent)) 14
+      (cond (not (leb maxEntries lent)) 14
       (cond (not (validLog clocks known values)) 15
       0))
 
@@ -119,16 +123,15 @@ module _ (family : ℕ) (code marks : List ℕ) (entry addr word flags0 flags1 :
   lentAfter lent (ReplayAnswer.Ended told) = writtenInto lent (replayedRun .writes)
   lentAfter lent (ReplayAnswer.Refused why) = lent
 
-  -- a slot that still runs at the end is one that the next step stops
-  abbrev pub Stops : Replayed → Type 0
-  Stops told = told .ending ≡ Ending.Stop → (why : Unreadable) × (nextStep SlotName.A clocks known values replayedRun .effect ≡ Effect.Stopped why)
-
-  -- the log's total is what waits spent, what ewaits passed by and what is left
-  abbrev pub ClockLaw : Replayed → Type 0
-  ClockLaw told = leftOf clocks (record { row = 0; used = 0 }) ≡ told .waited + told .searched + told .left
+  -- what holds of the end of a run
+  pub record RunEnds (told : Replayed) : Type 0 where
+    -- a slot that still runs at the end is one that the next step stops
+    pub stops : told .ending ≡ Ending.Stop → (why : Unreadable) × (nextStep SlotName.A clocks known values replayedRun .effect ≡ Effect.Stopped why)
+    -- the clock law: the log's total is what waits spent, what ewaits passed by and what is left
+    pub clocked : leftOf clocks (record { row = 0; used = 0 }) ≡ told .waited + told .searched + told .left
 
   abbrev pub EndsRight : ReplayAnswer → Type 0
-  EndsRight (ReplayAnswer.Ended told) = Stops told × ClockLaw told
+  EndsRight (ReplayAnswer.Ended told) = RunEnds told
   EndsRight (ReplayAnswer.Refused why) = Unit {0}
 
   -- what replay promises of its answer and of the lent entries, old and new

@@ -4,6 +4,7 @@ use mathlib.Core.Path.{_≡_, refl}
 use mathlib.Core.Bool.{Bool, true, false, cond, not}
 use mathlib.Core.List.{List}
 use native.Mathlib.Omega.{arith}
+use lib.Dec.{lit<}
 use lib.ListN.{getD}
 use Rattle.families.specs.Family.{codeSize}
 use Rattle.isa.proofs.Tests.{both-left, cond-elim}
@@ -18,8 +19,8 @@ use Rattle.script.proofs.Scripts.{Script, Log, fits-script, Auditable}
 use Rattle.run.proofs.Runs.{run-snoc}
 use Rattle.verdict.proofs.Walk.{Walk, Ends, at-refused, at-bad, at-exit, Walked, audit-walks}
 use Rattle.verdict.proofs.Soundness.{earlier, exit-step, sound}
-use Rattle.verdict.proofs.WitnessLog.{actions, witnessLog, witness-valid, bounded, bounded-start, reach}
-use Rattle.verdict.proofs.Starts.{begun-agrees}
+use Rattle.verdict.proofs.WitnessLog.{actions, witnessLog, witness-valid, witness-masks, bounded, bounded-start, reach}
+use Rattle.verdict.proofs.Starts.{begun-agrees, someState, some-start}
 use Rattle.verdict.proofs.Faults.{refused, blamed}
 use Rattle.verdict.proofs.ReplayLaws.{replay-tells}
 
@@ -42,6 +43,7 @@ module _ (x : Script) (entry : ℕ) (fit : Auditable x entry) (fits-so : scriptF
           log .values,
           suc (actions x w),
           valid,
+          witness-masks x w,
           rw (run-snoc name (log .clocks) (log .known) (log .values) (actions x w) (begun s))
               (exit-step x entry name log e unpaused (reach x name w (begun-agrees x entry (fit .fits) name s start log valid)) .exact .exit),
         );
@@ -68,10 +70,18 @@ unfolding auditOf
 demand3 family code marks entry ranges bytes = record {
   means =
       cond-elim (VerdictMeans family code marks entry ranges) (inputFits family code marks entry ranges)
-      (λ i. let s = both-left (scriptFits family code marks entry) (rangesFit ranges) i in walked x entry (record { fits = fits-script family code marks entry s; bytes = bytes }) s)
+      (λ i. walked x entry (auditable i) (fits i))
       (λ i. (i, refl));
   input = λ i. rw i refl;
+  replays = replay-tells family code marks entry ranges;
+  starts = λ i. (someState x entry 0 0, some-start x entry (auditable i) 0 0 (lit< tt) (lit< tt));
 }
   where
     x : Script
     x = record { family = family; code = code; marks = marks; ranges = ranges }
+
+    fits : inputFits family code marks entry ranges ≡ true → scriptFits family code marks entry ≡ true
+    fits i = both-left (scriptFits family code marks entry) (rangesFit ranges) i
+
+    auditable : inputFits family code marks entry ranges ≡ true → Auditable x entry
+    auditable i = record { fits = fits-script family code marks entry (fits i); bytes = bytes }

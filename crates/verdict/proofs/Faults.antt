@@ -41,7 +41,7 @@ use Rattle.verdict.proofs.Steady.{stepFrom, next, steps, run-steady, St
 use Rattle.verdict.proofs.Judging.{heldAddr, poke-addr, Blame}
 use Rattle.verdict.proofs.Walk.{Walk}
 use Rattle.verdict.proofs.Agreement.{Agree, performs}
-use Rattle.verdict.proofs.WitnessLog.{actions, witnessLog, witness-valid, reach}
+use Rattle.verdict.proofs.WitnessLog.{actions, witnessLog, witness-valid, witness-masks, reach}
 use Rattle.verdict.proofs.Starts.{begun-steady, begun-agrees, someState, some-start}
 
 -- ---- an ewait that nothing can release
@@ -55,21 +55,23 @@ ewait-unfinished known values event value rows (Released.At p n) o c =
     never (cc (lt-ltb event 32 (o .0), lt-ltb value 2 small))
 ewait-unfinished known values event value rows (Released.End n) o c = refl
 
--- a run at it fetches nothing after its step
-module _ (x : Script) (name : SlotName) (log : Log) {p n event value : ℕ} (e : Reads x p (Action.Ewait event value) n) (c : canRelease event value ≡ false) where
-  stuck : (r : Run) → SteadyRun x name log r → slotOf (r .state) name .mode ≡ Mode.Running → slotOf (r .state) name .ip .0 ≡ p
-      → (m : ℕ) → Fetchless (stepFrom name log (steps name log m (next name log r)) .effect)
+-- a run at it waits after its step, and fetches nothing from then on
+module _ (x : Script) (name : SlotName) (log : Log) {p n event value : ℕ} (e : Reads x p (Action.Ewait event value) n) (c : canRelease event value ≡ false)
+    (r : Run) (k : SteadyRun x name log r) (g : slotOf (r .state) name .mode ≡ Mode.Running) (at : slotOf (r .state) name .ip .0 ≡ p) where
+  stuck-waits : slotOf (next name log r .state) name .mode ≡ Mode.Waiting
   unfolding performOf
-  stuck r k g at m =
+  stuck-waits =
       let t = elapsedOf (Action.Ewait event value) (log .clocks) (log .known) (log .values) (r .place) in
       let cut : t .finished ≡ false
       = ewait-unfinished (log .known) (log .values) event value (length (log .clocks)) (ewaitOf (log .clocks) (log .known) (log .values) (r .place) event value)
       (ewait-on-reading (log .clocks) (log .known) (log .values) event value (r .place)) c in
-      let performs = next-performs x name log r k e g at in
-      let waits : slotOf (next name log r .state) name .mode ≡ Mode.Waiting = rw (performs, slot-back, cut) refl in
+      rw (next-performs x name log r k e g at, slot-back, cut) refl
+
+  stuck : (m : ℕ) → Fetchless (stepFrom name log (steps name log m (next name log r)) .effect)
+  stuck m =
       let k′ = next-steady x name log r k in
-      rw (settled-run name (log .clocks) (log .known) (log .values) m (next name log r) (next-settled x name log (next name log r) k′ (ap isRunning waits)))
-      (rw (next-nothing x name log (next name log r) k′ (ap isRunning waits)) tt)
+      rw (settled-run name (log .clocks) (log .known) (log .values) m (next name log r) (next-settled x name log (next name log r) k′ (ap isRunning stuck-waits)))
+      (rw (next-nothing x name log (next name log r) k′ (ap isRunning stuck-waits)) tt)
 
 -- ---- the step of a run that agrees with the auditor
 
@@ -109,11 +111,16 @@ module _ (x : Script) (entry : ℕ) (fit : Auditable x entry) {q : ℕ} {k : Kno
     known = witnessLog x w .known;
     values = witnessLog x w .values;
     log = witness-valid x w;
+    masks = witness-masks x w;
     steps = actions x w;
   }
 
   abbrev shown : ℕ → ℕ → Run
   shown addr word = steps SlotName.A (witnessLog x w) (actions x w) (begun (someState x entry addr word))
+
+  -- one step more
+  after-shown : (addr word : ℕ) → steps SlotName.A (witnessLog x w) (suc (actions x w)) (begun (someState x entry addr word)) ≡ next SlotName.A (witnessLog x w) (shown addr word)
+  after-shown addr word = run-snoc SlotName.A (witnessLog x w .clocks) (witnessLog x w .known) (witnessLog x w .values) (actions x w) (begun (someState x entry addr word))
 
   module _ (addr word : ℕ) (a : addr < 2 ^ 32) (d : word < 2 ^ 32) where
     arrived : Agree x SlotName.A (witnessLog x w) addr word q k (shown addr word)
@@ -187,7 +194,7 @@ module _ (x : Script) (entry : ℕ) (fit : Auditable x entry) {q : ℕ} {k : Kno
         ),
       )
   blamed action m Fault.Unreleased e b = (
-    (witness 0 0 low low, brought 0 0 low low, tt),
+    (witness 0 0 low low, brought 0 0 low low, rw (after-shown 0 0) (stuck-waits x SlotName.A (witnessLog x w) (rw (b .2) at e) (b .3) (shown 0 0) (arrived 0 0 low low .steady) (arrived 0 0 low low .going) (arrived 0 0 low low .ip))),
     λ name s start clocks known values valid n at later.
         let log : Log = record { clocks = clocks; known = known; values = values } in
         let split : suc (n + later) ≡ n + suc later = omega arith in
@@ -196,5 +203,6 @@ module _ (x : Script) (entry : ℕ) (fit : Auditable x entry) {q : ℕ} {k : Kno
   )
   blamed action m Fault.Paused e b =
       let g = exit-leaves x SlotName.A (witnessLog x w) (arrived 0 0 low low) (rw (b .0) at e) in
-      (witness 0 0 low low, brought 0 0 low low, rw (run-snoc SlotName.A (witnessLog x w .clocks) (witnessLog x w .known) (witnessLog x w .values) (actions x w) (begun (someState x entry 0 0))) (g .0, g .1, g .2 ∙ b .1))
+      let after = after-shown 0 0 in
+      (witness 0 0 low low, brought 0 0 low low, rw after (g .0), rw after (g .1), rw after (g .2 ∙ b .1))
   blamed action m Fault.Input e b = absurd b

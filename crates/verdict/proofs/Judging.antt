@@ -60,6 +60,20 @@ module _ (family : ℕ) (ranges : List ℕ) where
   Why action k Judgement.Exit = (action ≡ Action.Exit) × ((pausesMemory family && k .paused) ≡ false)
   Why action k (Judgement.Bad fault) = Blame action k fault
 
+  -- what is to be shown of each judgement
+  outside : (part : Part) (word : ℕ) (k : Knowledge) (address : MmioAddress) → targetOf part word (k .addr) ≡ KnownAddress.At address → listedIn ranges (address .0) ≡ false
+      → Blame (Action.Poke part word) k Fault.Outside
+  outside part word k address t l = (part, word, address, refl, t, l)
+
+  unreleased : (event value : ℕ) (k : Knowledge) → canRelease event value ≡ false → Blame (Action.Ewait event value) k Fault.Unreleased
+  unreleased event value k c = (event, value, refl, c)
+
+  exits : (k : Knowledge) → (pausesMemory family && k .paused) ≡ false → Why Action.Exit k Judgement.Exit
+  exits k e = (refl, e)
+
+  exits-paused : (k : Knowledge) → (pausesMemory family && k .paused) ≡ true → Blame Action.Exit k Fault.Paused
+  exits-paused k e = (refl, e)
+
   why-poke : (part : Part) (word : ℕ) (k : Knowledge) (target : KnownAddress) → targetOf part word (k .addr) ≡ target → Why (Action.Poke part word) k (judgePoke ranges target (k .«data»))
   why-poke Part.Whole word k KnownAddress.Unset t = never (cc)
   why-poke Part.Low word k KnownAddress.Unset t = (word, refl, unset (k .addr) t)
@@ -77,7 +91,7 @@ module _ (family : ℕ) (ranges : List ℕ) where
         listed = λ start addr data′ e. (rw (poke-addr part word start addr address (k .addr) t e) l, tt);
         event = λ event value q. never (cc);
       })
-      (λ l. (part, word, address, refl, t, l)))
+      (λ l. outside part word k address t l))
       (λ h. (part, word, refl, h))
 
   pub explain : (action : Action) (k : Knowledge) → Why action k (judgeOf family ranges action k)
@@ -86,10 +100,10 @@ module _ (family : ℕ) (ranges : List ℕ) where
   explain (Action.Ewait event value) k =
       cond-elim (Why (Action.Ewait event value) k) (canRelease event value)
       (λ c. record { goes = refl; moves = λ at next. refl; addr = λ start addr e. e; listed = λ start addr word e. tt; event = λ event′ value′ q. cc })
-      (λ c. (event, value, refl, c))
+      (λ c. unreleased event value k c)
   explain (Action.Flag change flag) k =
       record { goes = refl; moves = λ at next. refl; addr = λ start addr e. e; listed = λ start addr word e. tt; event = λ event value q. never (cc) }
   explain (Action.Load part word) k =
       record { goes = refl; moves = λ at next. refl; addr = λ start addr e. e; listed = λ start addr word e. tt; event = λ event value q. never (cc) }
   explain (Action.Poke part word) k = why-poke part word k (targetOf part word (k .addr)) refl
-  explain Action.Exit k = cond-elim (Why Action.Exit k) (pausesMemory family && k .paused) (λ e. (refl, e)) (λ e. (refl, e))
+  explain Action.Exit k = cond-elim (Why Action.Exit k) (pausesMemory family && k .paused) (λ e. exits-paused k e) (λ e. exits k e)

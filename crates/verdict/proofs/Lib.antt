@@ -11,4 +11,4 @@ pub mod Starts
 pub mod Faults
 pub mod ReplayLaws
 pub mod Claim
-mod Table
+pub mod Table

@@ -4,7 +4,7 @@ use mathlib.Core.Path.{_≡_, refl, ap, ap₂, sym, subst, _∙_}
 use mathlib.Core.Bool.{true}
 use mathlib.Core.List.{List}
 use native.Mathlib.Omega.{arith}
-use Rattle.log.specs.Validity.{validLog}
+use borrow.Author.Tests.{le-leb}
 use Rattle.flags.specs.Flags.{flagsWord0, flagsWord1, flagsFromWords}
 use Rattle.state.specs.Slot.{slotOf}
 use Rattle.flags.specs.declared.flags.Flags.{Flags}
@@ -12,9 +12,9 @@ use Rattle.state.specs.declared.slots.SlotName.{SlotName}
 use Rattle.state.specs.declared.state.State.{State}
 use Rattle.state.proofs.SlotLaws.{has-a}
 use Rattle.script.specs.Input.{scriptFits}
-use Rattle.run.specs.Replay.{replayState, toldOf, fullSteps, fullRun, replayOf}
+use Rattle.run.specs.Replay.{maxEntries, replayState, toldOf, fullSteps, fullRun, replayOf}
 use Rattle.run.specs.Run.{Run, begun, runFor}
-use Rattle.verdict.specs.Demand3.{ReplayTells}
+use Rattle.verdict.specs.Demand3.{ReplayTellsAll}
 use Rattle.verdict.specs.Start.{Start}
 use Rattle.run.specs.declared.answers.ReplayAnswer.{ReplayAnswer}
 use Rattle.run.proofs.Alike.{Alike, alike-run}
@@ -72,13 +72,11 @@ module _ (family : ℕ) (code marks : List ℕ) (entry : ℕ) (fits : scriptFits
 told-alike : (name name′ : SlotName) (clocks : List ℕ) (r r′ : Run) → Alike name name′ r r′ → toldOf name clocks r ≡ toldOf name′ clocks r′
 told-alike name name′ clocks r r′ a = rw (a .slot, a .flags, a .place, a .count, a .writes, a .waits, a .ewaits)
 
--- "replay answers what the steps give": the clause `replays` of a pass
-pub replay-tells : (family : ℕ) (code marks : List ℕ) (entry : ℕ) (ranges : List ℕ) → scriptFits family code marks entry ≡ true
-    → (name : SlotName) (s : State) → Start family code marks entry name s → (clocks known values : List ℕ) → validLog clocks known values ≡ true
-    → ReplayTells family code marks entry ranges name s clocks known values
+-- "replay answers what the steps give"
+pub replay-tells : (family : ℕ) (code marks : List ℕ) (entry : ℕ) (ranges : List ℕ) → scriptFits family code marks entry ≡ true → ReplayTellsAll family code marks entry ranges
 unfolding replayOf
-replay-tells family code marks entry ranges fits name s start clocks known values log =
+replay-tells family code marks entry ranges fits name s start clocks known values log lent enough =
     let alike = full-alike family code marks entry fits name s start clocks known values in (
-      simp (fits, log) (ap ReplayAnswer.Ended (told-alike SlotName.A name clocks (fullRun SlotName.A clocks known values (replayed family code marks entry fits name s)) (fullRun name clocks known values s) alike)),
+      simp (fits, le-leb maxEntries lent enough, log) (ap ReplayAnswer.Ended (told-alike SlotName.A name clocks (fullRun SlotName.A clocks known values (replayed family code marks entry fits name s)) (fullRun name clocks known values s) alike)),
       alike .writes,
     )

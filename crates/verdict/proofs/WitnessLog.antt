@@ -4,7 +4,7 @@ use mathlib.Core.Path.{_≡_, refl, sym, ap}
 use mathlib.Core.Bool.{true, _&&_}
 use mathlib.Core.List.{List, [], _∷_}
 use native.Mathlib.Omega.{arith}
-use lib.Dec.{ltb}
+use lib.Dec.{ltb, lit<}
 use lib.ListN.{length, getD, drop, replicate, length-replicate, getD-replicate}
 use borrow.Author.Tests.{ltb-true, le-leb, eq-eqb}
 use Rattle.families.specs.Family.{codeSize}
@@ -22,6 +22,7 @@ use Rattle.state.specs.declared.slots.SlotName.{SlotName}
 use Rattle.state.specs.declared.state.State.{State}
 use Rattle.time.specs.declared.elapsed.Elapsed.{Elapsed}
 use Rattle.verdict.specs.Auditor.{canRelease, waitLength, knowNext, knowNothing}
+use Rattle.verdict.specs.Start.{MasksInType}
 use Rattle.run.specs.Run.{Run, begun, runFor}
 use Rattle.verdict.specs.declared.verdicts.Knowledge.{Knowledge}
 use Rattle.verdict.proofs.Cases.{never, below-at}
@@ -103,6 +104,45 @@ module _ (x : Script) where
       let n = suc (length (knownRows x w)) in
       let s : length (replicate n (2 ^ 48)) ≡ n = length-replicate n (2 ^ 48) in
       rw (s, le-leb n 1024 (omega (arith, rows-most x w, size-small (x .family))), eq-eqb n n refl, eq-eqb (suc (length (valueRows x w))) n (ap suc (rows-same x w)), rows-long n)
+
+-- ---- its masks have 32 bits
+
+row-mask : (event value : ℕ) → canRelease event value ≡ true → (2 ^ event < 2 ^ 32) × (value * 2 ^ event < 2 ^ 32)
+unfolding canRelease
+row-mask event value c =
+    let small = ltb-true (2 ^ event) (2 ^ 32) (below-at 32 (λ i. ltb (2 ^ i) (2 ^ 32)) refl event (ltb-true event 32 (both-left (ltb event 32) (ltb value 2) c))) in
+    (small, by value (ltb-true value 2 (both-right (ltb event 32) (ltb value 2) c)) small)
+  where
+    by : (v : ℕ) → v < 2 → 2 ^ event < 2 ^ 32 → v * 2 ^ event < 2 ^ 32
+    by zero l h = omega arith
+    by (suc zero) l h = omega arith
+    by (suc (suc v)) l h = absurd (omega arith)
+
+-- one mask more
+mask-more : (mask : ℕ) (rest : List ℕ) → mask < 2 ^ 32 → ((i : ℕ) → getD rest i 0 < 2 ^ 32) → (i : ℕ) → getD (mask ∷ rest) i 0 < 2 ^ 32
+mask-more mask rest h r zero = h
+mask-more mask rest h r (suc i) = r i
+
+row-masks : (action : Action) (known values : List ℕ) → ((event value : ℕ) → action ≡ Action.Ewait event value → canRelease event value ≡ true)
+    → MasksInType known values → MasksInType (knownRow action known) (valueRow action values)
+row-masks (Action.Wait n) known values c m = m
+row-masks (Action.Ewait event value) known values c m =
+    let h = row-mask event value (c event value refl) in
+    record { known-bits = mask-more (2 ^ event) known (h .0) (m .known-bits); value-bits = mask-more (value * 2 ^ event) values (h .1) (m .value-bits) }
+row-masks (Action.Flag change flag) known values c m = m
+row-masks (Action.Load part word) known values c m = m
+row-masks (Action.Poke part word) known values c m = m
+row-masks Action.Exit known values c m = m
+
+module _ (x : Script) where
+  rows-masks : {p q : ℕ} {k l : Knowledge} (w : Walk x p k q l) → MasksInType (knownRows x w) (valueRows x w)
+  rows-masks here = record { known-bits = λ i. lit< tt; value-bits = λ i. lit< tt }
+  rows-masks (more action n e f w) = row-masks action (knownRows x w) (valueRows x w) (f .event) (rows-masks w)
+
+  pub witness-masks : {p q : ℕ} {k l : Knowledge} (w : Walk x p k q l) → MasksInType (witnessLog x w .known) (witnessLog x w .values)
+  witness-masks w =
+      let m = rows-masks w in
+      record { known-bits = mask-more 0 (knownRows x w) (lit< tt) (m .known-bits); value-bits = mask-more 0 (valueRows x w) (lit< tt) (m .value-bits) }
 
 -- ---- how time passes in such a log
 

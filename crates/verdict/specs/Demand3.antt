@@ -21,10 +21,10 @@ use Rattle.state.specs.declared.state.State.{State}
 use Rattle.machine.specs.declared.steps.Stepped.{Stepped}
 use Rattle.refusals.specs.declared.refusals.Unsteppable.{Unsteppable}
 use Rattle.turn.specs.declared.turn.Effect.{Effect}
-use Rattle.script.specs.Input.{listedIn, inputFits}
+use Rattle.script.specs.Input.{listedIn, scriptFits, inputFits}
 use Rattle.run.specs.Run.{Run, Write, begun, nextStep, runFor}
-use Rattle.run.specs.Replay.{toldOf, fullRun, replayOf, replayedRun}
-use Rattle.verdict.specs.Start.{Start}
+use Rattle.run.specs.Replay.{maxEntries, toldOf, fullRun, replayOf, replayedRun}
+use Rattle.verdict.specs.Start.{Start, MasksInType}
 use Rattle.refusals.specs.declared.refusals.Fault.{Fault}
 use Rattle.verdict.specs.declared.verdicts.Verdict.{Verdict}
 use Rattle.run.specs.declared.answers.ReplayAnswer.{ReplayAnswer}
@@ -90,27 +90,32 @@ module _ (family : ℕ) (code marks : List ℕ) (entry : ℕ) (ranges : List ℕ
       -- "with exactly the reported place and counts"
       pub exact : slotOf (r .state) name .mode ≡ Mode.Idle → Exact place count writes waitClocks r
 
-  -- replay of a start's values, with 340 entries lent, tells the run's own ending, state, place, steps and sums, and its writes in order
-  abbrev pub ReplayTells : SlotName → State → List ℕ → List ℕ → List ℕ → Type 0
-  ReplayTells name s clocks known values =
-      (replayOf family code marks entry (slotOf s name .addr .0) (slotOf s name .«data») (flagsWord0 (s .flags)) (flagsWord1 (s .flags)) true clocks known values 340
+  -- replay of a start's values, with entries enough lent, tells the run's own ending, state, place, steps and sums, and its writes in order
+  abbrev pub ReplayTells : SlotName → State → List ℕ → List ℕ → List ℕ → ℕ → Type 0
+  ReplayTells name s clocks known values lent =
+      (replayOf family code marks entry (slotOf s name .addr .0) (slotOf s name .«data») (flagsWord0 (s .flags)) (flagsWord1 (s .flags)) true clocks known values lent
       ≡ ReplayAnswer.Ended (toldOf name clocks (fullRun name clocks known values s)))
       × (replayedRun family code marks entry (slotOf s name .addr .0) (slotOf s name .«data») (flagsWord0 (s .flags)) (flagsWord1 (s .flags)) true clocks known values .writes
       ≡ fullRun name clocks known values s .writes)
+
+  -- of every start and every log
+  abbrev pub ReplayTellsAll : Type 0
+  ReplayTellsAll = (name : SlotName) (s : State) → Start family code marks entry name s → (clocks known values : List ℕ) → validLog clocks known values ≡ true
+      → (lent : ℕ) → maxEntries ≤ lent → ReplayTells name s clocks known values lent
 
   -- what a pass means
   pub record PassMeans (place count writes waitClocks : ℕ) : Type 0 where
     -- "from every start, under every log, after any number of steps"
     pub safe : (name : SlotName) (s : State) → Start family code marks entry name s → (clocks known values : List ℕ) → validLog clocks known values ≡ true
         → (n : ℕ) → Safe name place count writes waitClocks clocks known values n (runFor name clocks known values n (begun s))
-    -- each instruction takes a byte of the code RAM
+    -- each instruction takes a byte of the code RAM at least
     pub bounded : count ≤ codeSize family
     -- "some log brings it to exit"
     pub reaches : (name : SlotName) (s : State) → Start family code marks entry name s
-        → (clocks : List ℕ) × (known : List ℕ) × (values : List ℕ) × (n : ℕ) × (validLog clocks known values ≡ true) × (AtExit name place (runFor name clocks known values n (begun s)))
+        → (clocks : List ℕ) × (known : List ℕ) × (values : List ℕ) × (n : ℕ) × (validLog clocks known values ≡ true) × (MasksInType known values)
+        × (AtExit name place (runFor name clocks known values n (begun s)))
     -- "replay answers what the steps give"
-    pub replays : (name : SlotName) (s : State) → Start family code marks entry name s → (clocks known values : List ℕ) → validLog clocks known values ≡ true
-        → ReplayTells name s clocks known values
+    pub replays : ReplayTellsAll
 
   -- ---- what a fault means: a run that shows it
 
@@ -123,13 +128,18 @@ module _ (family : ℕ) (code marks : List ℕ) (entry : ℕ) (ranges : List ℕ
     pub known : List ℕ
     pub values : List ℕ
     pub log : validLog clocks known values ≡ true
+    pub masks : MasksInType known values
     pub steps : ℕ
 
   abbrev pub runOf : Witness → Run
   runOf w = runFor (w .name) (w .clocks) (w .known) (w .values) (w .steps) (begun (w .start))
 
+  -- its next step: what it did, and the run after it
   abbrev pub nextEffect : Witness → Effect
   nextEffect w = nextStep (w .name) (w .clocks) (w .known) (w .values) (runOf w) .effect
+
+  abbrev pub runAfter : Witness → Run
+  runAfter w = runFor (w .name) (w .clocks) (w .known) (w .values) (suc (w .steps)) (begun (w .start))
 
   -- some log brings a start to the place, and its next step has the effect
   abbrev pub Shows : ℕ → (Effect → Type 0) → Type 0
@@ -174,16 +184,15 @@ module _ (family : ℕ) (code marks : List ℕ) (entry : ℕ) (ranges : List ℕ
   FaultMeans Fault.HalfData place = (one : Witness) × (two : Witness) × (word : ℕ) × (two .start ≡ withData (one .name) (one .start) word) × (WriteDifferently place one two)
   -- 6: it writes outside every range
   FaultMeans Fault.Outside place = Shows place (λ e. (address : ℕ) × (word : ℕ) × (e ≡ Effect.Wrote (record { 0 = address }) word) × (listedIn ranges address ≡ false))
-  -- 7: some log brings a run there, and no log lets a run from any start fetch again after that step
+  -- 7: some log brings a run there, its step waits, and no log lets a run from any start fetch again after that step
   FaultMeans Fault.Unreleased place =
-      (Shows place (λ e. Unit {0}))
+      ((w : Witness) × (AtPlace (w .name) place (runOf w)) × (slotOf (runAfter w .state) (w .name) .mode ≡ Mode.Waiting))
       × ((name : SlotName) (s : State) → Start family code marks entry name s → (clocks known values : List ℕ) → validLog clocks known values ≡ true
       → (n : ℕ) → AtPlace name place (runFor name clocks known values n (begun s))
       → (m : ℕ) → Fetchless (nextStep name clocks known values (runFor name clocks known values (suc (n + m)) (begun s)) .effect))
   -- 8: it exits there with memory paused
   FaultMeans Fault.Paused place = (w : Witness) × (AtPlace (w .name) place (runOf w))
-      × (let after = runFor (w .name) (w .clocks) (w .known) (w .values) (suc (w .steps)) (begun (w .start)) in
-      (slotOf (after .state) (w .name) .mode ≡ Mode.Idle) × (slotOf (after .state) (w .name) .ip .0 ≡ place) × (pausedOf family (after .state .flags) ≡ true))
+      × (slotOf (runAfter w .state) (w .name) .mode ≡ Mode.Idle) × (slotOf (runAfter w .state) (w .name) .ip .0 ≡ place) × (pausedOf family (runAfter w .state .flags) ≡ true)
   -- 9: its row applies, and its place is 0
   FaultMeans Fault.Input place = (inputFits family code marks entry ranges ≡ false) × (place ≡ 0)
 
@@ -196,3 +205,7 @@ module _ (family : ℕ) (code marks : List ℕ) (entry : ℕ) (ranges : List ℕ
     pub means : VerdictMeans verdict
     -- 9 exactly where its row says: there, and by `means` nowhere else
     pub input : inputFits family code marks entry ranges ≡ false → verdict ≡ Verdict.Fault Fault.Input (record { 0 = 0 })
+    -- "unless refused, replay answers for the run": of a script with a fault too
+    pub replays : scriptFits family code marks entry ≡ true → ReplayTellsAll
+    -- a script that may be audited has starts, so that what is said of every start is said of some
+    pub starts : inputFits family code marks entry ranges ≡ true → (s : State) × (Start family code marks entry SlotName.A s)

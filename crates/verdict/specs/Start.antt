@@ -35,6 +35,11 @@ pub record InType (s : State) : Type 0 where
   pub a : SlotInType (s .a)
   pub b : SlotInType (s .b)
 
+-- the same of a log's masks; its clocks are bounded by validLog
+pub record MasksInType (known values : List ℕ) : Type 0 where
+  pub known-bits : (i : ℕ) → getD known i 0 < 2 ^ 32
+  pub value-bits : (i : ℕ) → getD values i 0 < 2 ^ 32
+
 abbrev pub otherOf : SlotName → SlotName
 otherOf SlotName.A = SlotName.B
 otherOf SlotName.B = SlotName.A

@@ -10,6 +10,7 @@ use Rattle.verdict.specs.Demand3.{Demand3}
 use Rattle.audit.specs.Promises.{Audits}
 use Rattle.verdict.specs.declared.verdicts.Verdict.{Verdict}
 use Rattle.verdict.proofs.Claim.{audit-numbered, demand3}
+use Rattle.verdict.proofs.Table.{starred}
 use Rattle.audit.proofs.auditor.audit.Statement.{statement}
 use Rattle.audit.proofs.auditor.audit.Tie as tie
 
@@ -23,6 +24,7 @@ audits c e =
       numbered = ap verdictNumber e ∙ audit-numbered (a .family) (now (a .code)) (now (a .marks)) (a .entry) (now (a .ranges));
       demand3 = subst (Demand3 (a .family) (now (a .code)) (now (a .marks)) (a .entry) (now (a .ranges))) (sym e)
           (demand3 (a .family) (now (a .code)) (now (a .marks)) (a .entry) (now (a .ranges)) (λ (i : ℕ). c .shared-slice-known .given i .fits));
+      starred = starred;
     }
 
 returns : tie.Need-returns

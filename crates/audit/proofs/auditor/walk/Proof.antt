@@ -89,7 +89,7 @@ returns c =
     let f = c .before .before .before .before in
     let l = f .before in
     let told = c .before .before .enum-told .given in
-    let why : c .fault-of .result ≡ faultOf (told .0 .0) = c .fault-of .ensures ∙ ap faultOf (c .before .reason-of .ensures ∙ ap reasonOf (told .1)) in
+    let why : c .fault-of .result ≡ faultOf (told .0 .0) = c .fault-of .ensures .0 ∙ ap faultOf (c .before .reason-of .ensures ∙ ap reasonOf (told .1)) in
     ap (λ (x : Fault). faultAt x (l .loop .at)) why ∙ going-none _ _ _ _ (l .loop .inv) (told .0 .0) (sym (f .fetch .ensures .answered) ∙ told .1)
 
 returns-2 : tie.Need-returns-2 Inv-loop μ-loop
