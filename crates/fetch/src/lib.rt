@@ -2,6 +2,7 @@
 ghost use mathlib.Core.Path.{_≡_};
 ghost use lib.ListN.{length, getD};
 ghost use Rattle.fetch.specs.Fetch.{allMarked, checkMarks, codeRam, reasonOf, pastOpcode, Fetches};
+use isa::CodeAddress;
 use isa::Decoded;
 use refusals::Unreadable;
 
@@ -60,9 +61,10 @@ fn ram_length(family: u8, code: &[u8]) -> usize
 
 // The instruction at a place of the family's code RAM. The first byte is tested before its operands, and whether a
 // byte lies in the RAM before whether it was uploaded.
-pub fn fetch<'a>(family: u8, code: &'a [u8], marks: &'a [u8], at: usize) -> Decoded
-    ensures { λ r. ⌜ Fetches family (now (code .entry)) (now (marks .entry)) at r ⌝ }
+pub fn fetch<'a>(family: u8, code: &'a [u8], marks: &'a [u8], place: CodeAddress) -> Decoded
+    ensures { λ r. ⌜ Fetches family (now (code .entry)) (now (marks .entry)) (place .0) r ⌝ }
 {
+    let at = place.0;
     let end = ram_length(family, code);
     if end <= at {
         return Decoded::Refused(Unreadable::Empty);
@@ -84,8 +86,13 @@ pub fn reason_of(found: Decoded) -> Unreadable
 }
 
 // The place past an opcode of one byte. An opcode lies below 512, so no other place has one past it.
-pub fn past_opcode(at: usize) -> usize
-    ensures { λ r. ⌜ r ≡ pastOpcode at ⌝ }
+pub fn past_opcode(place: CodeAddress) -> CodeAddress
+    ensures { λ r. ⌜ r ≡ record { 0 = pastOpcode (place .0) } ⌝ }
 {
-    if at < MAX_CODE { at + 1 } else { at }
+    let at = place.0;
+    if at < MAX_CODE {
+        CodeAddress(at + 1)
+    } else {
+        place
+    }
 }

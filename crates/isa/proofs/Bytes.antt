@@ -6,7 +6,7 @@ use lib.Dec.{lit<}
 use lib.ListN.{length, getD, take}
 use native.Mathlib.Nat.{pow-suc, div-lt-iff-lt-mul}
 use native.Mathlib.Omega.{arith}
-use Rattle.isa.specs.Reader.{le, operand}
+use Rattle.isa.specs.Reader.{leNumber, operand}
 use Rattle.isa.specs.Writer.{leBytes}
 
 pub two : (bytes : List ℕ) → getD bytes 1 0 + 256 * getD bytes 2 0 ≡ operand 2 bytes
@@ -24,17 +24,17 @@ four (x ∷ y ∷ z ∷ u ∷ []) = omega arith
 four (x ∷ y ∷ z ∷ u ∷ v ∷ bytes) = omega arith
 
 -- the bytes of the number that bytes make are those bytes
-pub respell : (n : ℕ) (xs : List ℕ) → n ≤ length xs → ((k : ℕ) → getD xs k 0 < 256) → leBytes n (le (take n xs)) ≡ take n xs
+pub respell : (n : ℕ) (xs : List ℕ) → n ≤ length xs → ((k : ℕ) → getD xs k 0 < 256) → leBytes n (leNumber (take n xs)) ≡ take n xs
 respell zero xs h b = refl
 respell (suc n) [] h b = absurd (omega arith)
 respell (suc n) (x ∷ xs) h b =
-    let L = le (take n xs) in
+    let L = leNumber (take n xs) in
     let low : (x + 256 * L) % 256 ≡ x = omega (arith, b 0) in
     let high : (x + 256 * L) / 256 ≡ L = omega (arith, b 0) in
     rw (low, high, respell n xs (omega arith) (λ k. b (suc k)))
 
 -- the number that a number's bytes make is the number
-pub reread : (n x : ℕ) (after : List ℕ) → x < 256 ^ n → le (take n (leBytes n x ++ after)) ≡ x
+pub reread : (n x : ℕ) (after : List ℕ) → x < 256 ^ n → leNumber (take n (leBytes n x ++ after)) ≡ x
 reread zero x after h = omega arith
 reread (suc n) x after h =
     let q : x / 256 < 256 ^ n = div-lt-iff-lt-mul (lit< tt) .1 (rw pow-suc at h) in

@@ -9,7 +9,7 @@ use native.Mathlib.Omega.{arith}
 use borrow.Author.Tests.{leb-true, le-leb, eqb-true}
 use Rattle.families.specs.Family.{within, knownFamily}
 use Rattle.isa.specs.Opcode.{opcodeAt, laterOnly, sizeOf}
-use Rattle.isa.specs.Reader.{le, readAs, decodeOf}
+use Rattle.isa.specs.Reader.{leNumber, readAs, decodeOf}
 use Rattle.isa.specs.Writer.{opcodeOf, onFamily, operandsFit, leBytes, spell}
 use Rattle.isa.specs.Codec.{InType, OneSpelling}
 use Rattle.isa.specs.declared.instructions.Instruction.{Instruction}
@@ -77,7 +77,7 @@ one : (f : ℕ) (i : Instruction) (x : ℕ) (xs : List ℕ) → spell i ≡ x �
 one f i x xs e o w = record { bytes = e; on = o; fit = w; width = ap length e; some = omega arith; room = omega arith }
 
 -- a first byte and a number of n bytes after it
-word : (n b x : ℕ) (xs : List ℕ) → x ≡ b → n ≤ length xs → AreBytes (x ∷ xs) → b ∷ leBytes n (le (take n xs)) ≡ x ∷ take n xs
+word : (n b x : ℕ) (xs : List ℕ) → x ≡ b → n ≤ length xs → AreBytes (x ∷ xs) → b ∷ leBytes n (leNumber (take n xs)) ≡ x ∷ take n xs
 word n b x xs e h a = ap₂ (λ (y : ℕ) (ys : List ℕ). y ∷ ys) (sym e) (respell n xs h (λ j. a (suc j)))
 
 read-spelled : (f : ℕ) (k : Opcode) (bs : List ℕ) → FirstByte f k (getD bs 0 0) → AreBytes bs → sizeOf k ≤ length bs → SpelledAs f bs (readAs k bs)

@@ -12,7 +12,7 @@ use Rattle.isa.specs.declared.encoding.Encoded.{Encoded}
 
 -- the words of an instruction fit their types
 abbrev pub InType : Instruction → Type 0
-InType (Instruction.Wait length shift) = Unit {0}
+InType (Instruction.Wait len shift) = Unit {0}
 InType (Instruction.AddrLo low) = low < 2 ^ 16
 InType (Instruction.DataLo low) = low < 2 ^ 16
 InType (Instruction.Ewait event value) = Unit {0}

@@ -5,7 +5,7 @@ use lib.Dec.{leb, eqb}
 use Rattle.families.specs.Family.{within}
 use Rattle.isa.specs.declared.opcodes.Opcode.{Opcode}
 
--- pokes, their data and event waits: families 2 to 4 alone know them
+-- pokes, their data and event waits: family 1 does not know them
 abbrev pub laterOnly : ℕ → Opcode → Opcode
 laterOnly f k = cond (leb 2 f) k Opcode.Unknown
 

@@ -14,13 +14,13 @@ use Rattle.isa.specs.declared.reader.Decoded.{Decoded}
 use Rattle.refusals.specs.declared.refusals.Unreadable.{Unreadable}
 
 -- the number whose little-endian bytes are the list
-abbrev pub le : List ℕ → ℕ
-le [] = 0
-le (x ∷ xs) = x + 256 * le xs
+abbrev pub leNumber : List ℕ → ℕ
+leNumber [] = 0
+leNumber (x ∷ xs) = x + 256 * leNumber xs
 
 -- the n operand bytes after the first byte, as a number
 abbrev pub operand : ℕ → List ℕ → ℕ
-operand n bytes = le (take n (drop 1 bytes))
+operand n bytes = leNumber (take n (drop 1 bytes))
 
 -- the instruction with an opcode: fields of the first byte, or operands after it
 abbrev pub readAs : Opcode → List ℕ → Decoded

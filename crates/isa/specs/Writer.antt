@@ -14,7 +14,7 @@ use Rattle.isa.specs.declared.opcodes.Opcode.{Opcode}
 use Rattle.refusals.specs.declared.refusals.Unwritable.{Unwritable}
 
 abbrev pub opcodeOf : Instruction → Opcode
-opcodeOf (Instruction.Wait length shift) = Opcode.Wait
+opcodeOf (Instruction.Wait len shift) = Opcode.Wait
 opcodeOf (Instruction.AddrLo low) = Opcode.AddrLo
 opcodeOf (Instruction.DataLo low) = Opcode.DataLo
 opcodeOf (Instruction.Ewait event value) = Opcode.Ewait
@@ -41,7 +41,7 @@ onFamily f Opcode.Unknown = false
 
 -- no length above 3, shift above 15 or flag above 31; every other operand can be spelled
 abbrev pub operandsFit : Instruction → Bool
-operandsFit (Instruction.Wait length shift) = waitFits length shift
+operandsFit (Instruction.Wait len shift) = waitFits len shift
 operandsFit (Instruction.AddrLo low) = true
 operandsFit (Instruction.DataLo low) = true
 operandsFit (Instruction.Ewait event value) = true
@@ -59,7 +59,7 @@ leBytes (suc n) x = x % 256 ∷ leBytes n (x / 256)
 
 -- the one spelling of an instruction
 abbrev pub spell : Instruction → List ℕ
-spell (Instruction.Wait length shift) = (length + 4 * shift) ∷ []
+spell (Instruction.Wait len shift) = (len + 4 * shift) ∷ []
 spell (Instruction.AddrLo low) = 0x40 ∷ leBytes 2 low
 spell (Instruction.DataLo low) = 0x42 ∷ leBytes 2 low
 spell (Instruction.Ewait event value) = 0x5f ∷ event ∷ value ∷ []

@@ -2,7 +2,7 @@
 use crate::addresses::MmioAddress;
 
 pub enum Instruction {
-    // length << 2 * shift times 32 clocks; the two are kept apart, since they are spelled apart
+    // (length << 2 * shift) * 32 clocks; the two are kept apart, since they are spelled apart
     Wait { length: u8, shift: u8 },
     AddrLo(u16),
     DataLo(u16),

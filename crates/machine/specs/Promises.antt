@@ -9,7 +9,7 @@ use Rattle.refusals.specs.declared.refusals.Unreadable.{Unreadable}
 use Rattle.waits.specs.Left.{leftOf}
 use Rattle.log.specs.Validity.{validLog, validPlace}
 use Rattle.log.specs.declared.place.Place.{Place}
-use Rattle.state.specs.Slot.{slotOf}
+use Rattle.state.specs.Slot.{otherOf, slotOf}
 use Rattle.refusals.specs.Number.{unsteppableNumber}
 use Rattle.machine.specs.Step.{advanceOf, stepOf}
 use Rattle.state.specs.declared.slots.Slot.{Slot}
@@ -18,10 +18,6 @@ use Rattle.state.specs.declared.state.State.{State}
 use Rattle.machine.specs.declared.steps.Stepped.{Stepped}
 use Rattle.refusals.specs.declared.refusals.Unsteppable.{Unsteppable}
 use Rattle.turn.specs.declared.turn.Effect.{Effect}
-
-abbrev pub otherOf : SlotName → SlotName
-otherOf SlotName.A = SlotName.B
-otherOf SlotName.B = SlotName.A
 
 -- a step of a slot leaves the family, code, marks, control, entry points and the other slot alone
 pub record Keeps (name : SlotName) (s t : State) : Type 0 where

@@ -7,6 +7,7 @@ ghost use Rattle.machine.specs.Step.{unmoved as Step·unmoved};
 ghost use Rattle.log.specs.Validity.{validLog, validPlace};
 ghost use Rattle.machine.specs.Promises.{Advances, Steps};
 use actions::action_of;
+use isa::CodeAddress;
 use isa::Decoded;
 use log::Place;
 use refusals::Unsteppable;
@@ -49,7 +50,7 @@ pub fn advance<'a>(
     if !can_run(state.family, name, mode) {
         return unmoved(state, at, Effect::Nothing);
     }
-    let ip = slot.ip.0;
+    let ip = slot.ip;
     let code = state.code;
     let marks = state.marks;
     let flags = state.flags;
@@ -62,7 +63,14 @@ pub fn advance<'a>(
     };
     let action = action_of(instruction);
     let elapsed = elapse(action, clocks, known, values, at);
-    let turn = perform(state.enable, slot, flags, action, ip + length, elapsed);
+    let turn = perform(
+        state.enable,
+        slot,
+        flags,
+        action,
+        CodeAddress(ip.0 + length),
+        elapsed,
+    );
     after_turn(state, name, turn)
 }
 

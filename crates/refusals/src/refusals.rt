@@ -45,13 +45,13 @@ pub enum Fault {
     Unknown,
     // addrlo with no addr before it
     NoAddress,
-    // a poke with a half of DATA not set
+    // a poke with a half of DATA not set by this script
     HalfData,
     // a poke outside every range
     Outside,
     // an ewait that nothing can release
     Unreleased,
-    // exit with memory paused
+    // exit where the last touch of flag 16 was set1, on families 2 to 4
     Paused,
     // what was handed in is no script with ranges
     Input,

@@ -1,6 +1,7 @@
 // Which script may be audited or replayed.
 ghost use mathlib.Core.Path.{_≡_};
 ghost use Rattle.script.specs.Input.{marksPlain, scriptFits};
+use isa::CodeAddress;
 
 // Whether each mark is 0 or 1.
 fn marks_plain(marks: &[u8]) -> bool
@@ -18,8 +19,8 @@ fn marks_plain(marks: &[u8]) -> bool
 
 // Whether the family is known, code and marks are of its size, marks are plain and the entry is one that its registers
 // can hold.
-pub fn script_fits<'a>(family: u8, code: &'a [u8], marks: &'a [u8], entry: usize) -> bool
-    ensures { λ r. ⌜ r ≡ scriptFits family (now (code .entry)) (now (marks .entry)) entry ⌝ }
+pub fn script_fits<'a>(family: u8, code: &'a [u8], marks: &'a [u8], entry: CodeAddress) -> bool
+    ensures { λ r. ⌜ r ≡ scriptFits family (now (code .entry)) (now (marks .entry)) (entry .0) ⌝ }
 {
     if !families::known_family(family) {
         return false;
@@ -33,5 +34,5 @@ pub fn script_fits<'a>(family: u8, code: &'a [u8], marks: &'a [u8], entry: usize
     if !marks_plain(marks) {
         return false;
     }
-    entry <= families::highest_entry(family)
+    entry.0 <= families::highest_entry(family)
 }

@@ -14,6 +14,10 @@ abbrev pub hasSlot : ℕ → SlotName → Bool
 hasSlot family SlotName.A = leb 1 (slotCount family)
 hasSlot family SlotName.B = leb 2 (slotCount family)
 
+abbrev pub otherOf : SlotName → SlotName
+otherOf SlotName.A = SlotName.B
+otherOf SlotName.B = SlotName.A
+
 abbrev pub isRunning : Mode → Bool
 isRunning Mode.Idle = false
 isRunning Mode.Running = true

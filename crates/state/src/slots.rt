@@ -1,4 +1,4 @@
-// A slot: what one script in execution has to itself.
+// A slot: its mode, its IP, and ADDR and DATA, which outlive a script.
 ghost use mathlib.Core.Path.{_≡_};
 ghost use Rattle.state.specs.Slot.{hasSlot, isRunning, isIdle};
 use isa::CodeAddress;

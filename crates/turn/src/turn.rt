@@ -18,7 +18,7 @@ use time::Elapsed;
 // What a step did.
 pub enum Effect {
     Refused(Unsteppable),
-    // the slot was idle, hung, blocked or waiting
+    // the slot was idle, hung, blocked or waiting, or the family has no such slot
     Nothing,
     // the fetch failed, and why
     Stopped(Unreadable),
@@ -128,10 +128,10 @@ pub fn perform(
     slot: Slot,
     flags: Flags,
     action: Action,
-    next: usize,
+    next: CodeAddress,
     elapsed: Elapsed,
 ) -> Turn
-    ensures { λ r. ⌜ r ≡ performAt enable slot flags action next elapsed ⌝ }
+    ensures { λ r. ⌜ r ≡ performAt enable slot flags action (next .0) elapsed ⌝ }
 {
     let ip = slot.ip.0;
     let addr = slot.addr.0;
@@ -140,7 +140,7 @@ pub fn perform(
     let mode = mode_after(action, enable, elapsed.finished);
     let after = Slot {
         mode,
-        ip: CodeAddress(ip_after(action, ip, next)),
+        ip: CodeAddress(ip_after(action, ip, next.0)),
         addr: MmioAddress(addr_after(action, addr)),
         data: data_after(action, word),
     };
@@ -163,17 +163,17 @@ pub fn unfetched(
     slot: Slot,
     flags: Flags,
     place: Place,
-    next: usize,
+    next: CodeAddress,
     why: Unreadable,
 ) -> Turn
-    ensures { λ r. ⌜ r ≡ unfetchedAt family slot flags place next why ⌝ }
+    ensures { λ r. ⌜ r ≡ unfetchedAt family slot flags place (next .0) why ⌝ }
 {
     match why {
         Unreadable::Unknown => {
             let addr = slot.addr;
             let after = Slot {
                 mode: hung_if(families::unknown_hangs(family)),
-                ip: CodeAddress(next),
+                ip: next,
                 addr,
                 data: slot.data,
             };

@@ -9,7 +9,7 @@ use Rattle.families.specs.Family.{codeSize}
 use Rattle.isa.specs.declared.addresses.CodeAddress.{CodeAddress}
 use Rattle.isa.specs.declared.addresses.MmioAddress.{MmioAddress}
 use Rattle.flags.specs.Flags.{pausedOf}
-use Rattle.state.specs.Slot.{hasSlot, slotOf}
+use Rattle.state.specs.Slot.{hasSlot, otherOf, slotOf}
 use Rattle.flags.specs.declared.flags.Flags.{Flags}
 use Rattle.state.specs.declared.slots.Mode.{Mode}
 use Rattle.state.specs.declared.slots.Slot.{Slot}
@@ -39,10 +39,6 @@ pub record InType (s : State) : Type 0 where
 pub record MasksInType (known values : List ℕ) : Type 0 where
   pub known-bits : (i : ℕ) → getD known i 0 < 2 ^ 32
   pub value-bits : (i : ℕ) → getD values i 0 < 2 ^ 32
-
-abbrev pub otherOf : SlotName → SlotName
-otherOf SlotName.A = SlotName.B
-otherOf SlotName.B = SlotName.A
 
 -- a start in the named slot
 pub record Start (family : ℕ) (code marks : List ℕ) (entry : ℕ) (name : SlotName) (s : State) : Type 0 where

@@ -100,11 +100,11 @@ fn operands_fit(instruction: Instruction) -> bool
     }
 }
 
-// The same test as isa's own, which isa does not export.
-fn wait_fits(length: u8, shift: u8) -> bool
-    ensures { λ r. ⌜ r ≡ waitFits length shift ⌝ }
+// Whether a wait's one byte can hold these operands.
+fn wait_fits(len: u8, shift: u8) -> bool
+    ensures { λ r. ⌜ r ≡ waitFits len shift ⌝ }
 {
-    length <= 3 && shift <= 15
+    len <= 3 && shift <= 15
 }
 
 fn spelled(instruction: Instruction) -> Spelling

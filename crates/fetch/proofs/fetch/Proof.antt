@@ -27,10 +27,10 @@ unfolding fetchOf
 returns c =
     let a = c .before .before .before .before .args in
     let r = codeRam (a .family) (now (a .code)) in
-    refused Unreadable.Empty (simp (le-ltb (a .at) (length r) (omega (arith, c .before .ram-length .ensures))))
+    refused Unreadable.Empty (simp (le-ltb (a .place .0) (length r) (omega (arith, c .before .ram-length .ensures))))
 
 -- past the first test the place lies in the RAM
-before-end : (c : tie.Else1) → c .before .before .before .before .args .at < length (codeRam (c .before .before .before .before .args .family) (now (c .before .before .before .before .args .code)))
+before-end : (c : tie.Else1) → c .before .before .before .before .args .place .0 < length (codeRam (c .before .before .before .before .args .family) (now (c .before .before .before .before .args .code)))
 before-end c = omega (arith, c .before .ram-length .ensures)
 
 returns-2 : tie.Need-returns-2
@@ -39,7 +39,7 @@ returns-2 c =
     let a = c .before .before .before .before .before .before .args in
     let r = codeRam (a .family) (now (a .code)) in
     refused Unreadable.NotUploaded
-    (simp (lt-ltb (a .at) (length r) (before-end (c .before .before)), ne-eqb (getD (now (a .marks)) (a .at) 0) 1 (λ e. c .if2 .taken (c .before .mark .ensures ∙ e))))
+    (simp (lt-ltb (a .place .0) (length r) (before-end (c .before .before)), ne-eqb (getD (now (a .marks)) (a .place .0) 0) 1 (λ e. c .if2 .taken (c .before .mark .ensures ∙ e))))
 
 part-decode-end : tie.Need-part-decode-end
 part-decode-end c =
@@ -52,19 +52,19 @@ returns-3 c =
     let k = c .before .before .before in
     let a = k .before .before .before .before .before .before .args in
     let r = codeRam (a .family) (now (a .code)) in
-    let e : take (k .before .before .before .ram-length .result - a .at) (drop (a .at) (now (a .code))) ≡ drop (a .at) r =
-    ap (λ (n : ℕ). take (n - a .at) (drop (a .at) (now (a .code)))) (k .before .before .before .ram-length .ensures) ∙ part (codeSize (a .family)) (a .at) (now (a .code)) in
+    let e : take (k .before .before .before .ram-length .result - a .place .0) (drop (a .place .0) (now (a .code))) ≡ drop (a .place .0) r =
+    ap (λ (n : ℕ). take (n - a .place .0) (drop (a .place .0) (now (a .code)))) (k .before .before .before .ram-length .ensures) ∙ part (codeSize (a .family)) (a .place .0) (now (a .code)) in
     let d = c .before .decode in
-    let found : d .result ≡ decodeOf (a .family) (drop (a .at) r) = d .ensures .answered ∙ ap (decodeOf (a .family)) e in
-    let spelled : OneSpelling (a .family) (drop (a .at) r) (d .result) = rw e at (d .ensures .spelled-so) in
-    let inside = inside-of (a .family) (now (a .code)) (now (a .marks)) (a .at) (d .result) (omega (arith, before-end (k .before .before))) spelled in
-    let answer : c .check-marks .result ≡ checkMarks (now (a .marks)) (a .at) (d .result) = c .check-marks .ensures in
-    let answered : c .check-marks .result ≡ fetchOf (a .family) (now (a .code)) (now (a .marks)) (a .at) =
-    answer ∙ simp (lt-ltb (a .at) (length r) (before-end (k .before .before)), eq-eqb (getD (now (a .marks)) (a .at) 0) 1 (sym (k .before .mark .ensures) ∙ k .if2 .left), found) in
+    let found : d .result ≡ decodeOf (a .family) (drop (a .place .0) r) = d .ensures .answered ∙ ap (decodeOf (a .family)) e in
+    let spelled : OneSpelling (a .family) (drop (a .place .0) r) (d .result) = rw e at (d .ensures .spelled-so) in
+    let inside = inside-of (a .family) (now (a .code)) (now (a .marks)) (a .place .0) (d .result) (omega (arith, before-end (k .before .before))) spelled in
+    let answer : c .check-marks .result ≡ checkMarks (now (a .marks)) (a .place .0) (d .result) = c .check-marks .ensures in
+    let answered : c .check-marks .result ≡ fetchOf (a .family) (now (a .code)) (now (a .marks)) (a .place .0) =
+    answer ∙ simp (lt-ltb (a .place .0) (length r) (before-end (k .before .before)), eq-eqb (getD (now (a .marks)) (a .place .0) 0) 1 (sym (k .before .mark .ensures) ∙ k .if2 .left), found) in
     record {
       answered = answered;
-      numbered = ap decodedNumber answered ∙ fetch-numbered (a .family) (now (a .code)) (now (a .marks)) (a .at);
-      inside = subst (Inside (a .family) (now (a .code)) (a .at)) (sym answer) inside;
+      numbered = ap decodedNumber answered ∙ fetch-numbered (a .family) (now (a .code)) (now (a .marks)) (a .place .0);
+      inside = subst (Inside (a .family) (now (a .code)) (a .place .0)) (sym answer) inside;
     }
 
 pub fetch-spec : {M : Type 1} → statement M

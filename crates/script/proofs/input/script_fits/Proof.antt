@@ -1,9 +1,13 @@
 -- Assumes nothing.
-use Rattle.script.specs.Input.{scriptFits}
-use Rattle.families.specs.Family.{codeSize}
+use Prim.Native.Nat.{ℕ}
+use mathlib.Core.Bool.{true}
+use mathlib.Core.List.{List}
+use lib.Dec.{leb}
+use Rattle.script.specs.Input.{marksPlain, scriptFits}
+use Rattle.families.specs.Family.{knownFamily, codeSize, highestEntry}
 use borrow.Author.Tests.{not-true, not-false, eq-eqb, ne-eqb}
 use lib.ListN.{length}
-use mathlib.Core.Path.{sym, _∙_}
+use mathlib.Core.Path.{_≡_, sym, ap, _∙_}
 use denote.Ref.{now}
 use borrow.Author.Needs.{needs}
 use Rattle.script.proofs.input.script_fits.Statement.{statement}
@@ -34,14 +38,21 @@ returns-4 c =
     let a = k .before .before .before .before .before .before .args in
     simp (sym (k .before .before .before .known-family .ensures) ∙ not-false _ (k .before .before .if1 .left), eq-eqb (length (now (a .code))) (codeSize (a .family)) (k .if2 .left ∙ k .before .code-size .ensures), eq-eqb (length (now (a .marks))) (codeSize (a .family)) (j .if3 .left ∙ j .before .code-size2 .ensures), sym (c .before .marks-plain .ensures) ∙ not-true _ (c .if4 .taken))
 
-returns-5 : tie.Need-returns-5
+-- where the tests before it hold, the last one decides
+last-decides : (family : ℕ) (code marks : List ℕ) (entry : ℕ) → knownFamily family ≡ true → length code ≡ codeSize family → length marks ≡ codeSize family → marksPlain marks ≡ true
+    → leb entry (highestEntry family) ≡ scriptFits family code marks entry
 unfolding scriptFits
+last-decides family code marks entry k c m p = simp (k, eq-eqb (length code) (codeSize family) c, eq-eqb (length marks) (codeSize family) m, p)
+
+returns-5 : tie.Need-returns-5
 returns-5 c =
-    let i = c .before in
+    let i = c .before .before in
     let j = i .before .before in
     let k = j .before .before in
     let a = k .before .before .before .before .before .before .args in
-    simp (sym (k .before .before .before .known-family .ensures) ∙ not-false _ (k .before .before .if1 .left), eq-eqb (length (now (a .code))) (codeSize (a .family)) (k .if2 .left ∙ k .before .code-size .ensures), eq-eqb (length (now (a .marks))) (codeSize (a .family)) (j .if3 .left ∙ j .before .code-size2 .ensures), sym (i .before .marks-plain .ensures) ∙ not-false _ (i .if4 .left), c .highest-entry .ensures)
+    ap (leb (a .entry .0)) (c .before .highest-entry .ensures)
+    ∙ last-decides (a .family) (now (a .code)) (now (a .marks)) (a .entry .0) (sym (k .before .before .before .known-family .ensures) ∙ not-false _ (k .before .before .if1 .left))
+    (k .if2 .left ∙ k .before .code-size .ensures) (j .if3 .left ∙ j .before .code-size2 .ensures) (sym (i .before .marks-plain .ensures) ∙ not-false _ (i .if4 .left))
 
 pub script-fits-spec : {M : Type 1} → statement M
 script-fits-spec =

@@ -11,7 +11,7 @@ returns c = simp (c .before .before .before .before .enum-told .given .1, c .unm
 returns-2 : tie.Need-returns-2
 returns-2 c =
     let a = c .before .before .args in
-    c .unmoved2 .ensures ∙ stops (a .why) (a .family) (a .slot) (a .flags) (a .place) (a .next) (c .before .match .keys2)
+    c .unmoved2 .ensures ∙ stops (a .why) (a .family) (a .slot) (a .flags) (a .place) (a .next .0) (c .before .match .keys2)
 
 pub unfetched-spec : {M : Type 1} → statement M
 unfetched-spec =
