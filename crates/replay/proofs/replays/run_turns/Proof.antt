@@ -10,6 +10,7 @@ use lib.Seq.{sets}
 use borrow.Author.Needs.{needs}
 use borrow.Author.Tests.{not-true, not-false}
 use Rattle.isa.specs.declared.addresses.MmioAddress.{MmioAddress}
+use Rattle.families.specs.Family.{codeSize}
 use Rattle.fetch.proofs.Places.{size-small}
 use Rattle.state.specs.Slot.{isRunning}
 use Rattle.state.specs.declared.slots.Mode.{Mode}
@@ -32,8 +33,12 @@ Inv-loop family code marks entry «data» flags-0 flags-1 enable clocks known va
 abbrev μ-loop : tie.MeasureT-loop
 μ-loop family code marks entry «data» flags-0 flags-1 enable clocks known values writes₀ limit progress₀ turns₀ writes progress turns = limit - turns
 
+-- a code RAM is small, whichever family was asked for
+small : {size : ℕ} (family : ℕ) → size ≡ codeSize family → size ≤ 512
+small family e = omega (arith, e, size-small family)
+
 add-limit : tie.Need-add-limit Inv-loop μ-loop
-add-limit c = omega (arith, c .code-size .ensures, size-small (c .before .before .before .before .before .before .before .args .family))
+add-limit c = omega (arith, small _ (c .code-size .ensures))
 
 loop-holds : tie.Need-loop-holds Inv-loop μ-loop
 unfolding runFor
@@ -51,7 +56,7 @@ module _ (c : tie.After-take-turn Inv-loop μ-loop) where
   runs-on = sym (c .before .before .is-running .ensures) ∙ not-false _ (c .before .if2 .left)
 
   few : loop .loop .turns ≤ 512
-  few = omega (arith, loop .before .before .code-size .ensures, size-small (entered .args .family))
+  few = omega (arith, small _ (loop .before .before .code-size .ensures))
 
   after : progressAfter (loop .loop .progress) (c .take-turn .result)
       ≡ progressOf (run (entered .args .family) (now (entered .args .code)) (now (entered .args .marks)) (entered .args .entry) (loop .before .begin .result .slot .addr .0) (entered .args .«data») (entered .args .flags-0) (entered .args .flags-1) (entered .args .enable) (now (entered .args .clocks)) (now (entered .args .known)) (now (entered .args .values)) (suc (loop .loop .turns)))

@@ -10,7 +10,7 @@ use Rattle.script.proofs.ranges.ranges_fit.Tie as tie
 
 returns : tie.Need-returns
 unfolding rangesFit
-returns c = simp (lt-leb _ _ (c .if1 .taken))
+returns c = simp (lt-leb (length (now (c .before .before .args .ranges))) 128 (omega arith))
 
 returns-2 : tie.Need-returns-2
 unfolding rangesFit
