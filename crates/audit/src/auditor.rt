@@ -23,10 +23,10 @@ pub fn audit<'a>(
     family: u8,
     code: &'a [u8],
     marks: &'a [u8],
-    entry: usize,
+    entry: CodeAddress,
     ranges: &'a [u32],
 ) -> Verdict
-    ensures { λ r. ⌜ Audits family (now (code .entry)) (now (marks .entry)) entry (now (ranges .entry)) r ⌝ }
+    ensures { λ r. ⌜ Audits family (now (code .entry)) (now (marks .entry)) (entry .0) (now (ranges .entry)) r ⌝ }
 {
     if !script_fits(family, code, marks, entry) {
         return Verdict::Fault(Fault::Input, CodeAddress(0));
@@ -52,14 +52,20 @@ fn fault_of(why: Unreadable) -> Fault
 }
 
 // From the entry to the first exit or fault.
-fn walk<'a>(family: u8, code: &'a [u8], marks: &'a [u8], entry: usize, ranges: &'a [u32]) -> Verdict
-    requires { ⌜ inputFits family (now code) (now marks) entry (now ranges) ≡ true ⌝ }
-    ensures { λ r. ⌜ r ≡ verdictIn (codeSize family) family (now (code .entry)) (now (marks .entry)) (now (ranges .entry)) entry knowNothing ⌝ }
+fn walk<'a>(
+    family: u8,
+    code: &'a [u8],
+    marks: &'a [u8],
+    entry: CodeAddress,
+    ranges: &'a [u32],
+) -> Verdict
+    requires { ⌜ inputFits family (now code) (now marks) (entry .0) (now ranges) ≡ true ⌝ }
+    ensures { λ r. ⌜ r ≡ verdictIn (codeSize family) family (now (code .entry)) (now (marks .entry)) (now (ranges .entry)) (entry .0) knowNothing ⌝ }
 {
-    let mut at = entry;
+    let mut at = entry.0;
     let mut known = know_nothing();
     let verdict = loop {
-        let found = fetch::fetch(family, code, marks, at);
+        let found = fetch::fetch(family, code, marks, CodeAddress(at));
         let Decoded::Instruction(instruction, length) = found else {
             break Verdict::Fault(fault_of(fetch::reason_of(found)), CodeAddress(at));
         };

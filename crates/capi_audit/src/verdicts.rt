@@ -1,6 +1,7 @@
 // The auditor, its verdict as numbers.
 ghost use mathlib.Core.Path.{_≡_};
 ghost use Rattle.capi_audit.specs.Verdicts.{auditReply, HwsqAudit};
+use isa::CodeAddress;
 use verdict::Verdict;
 
 #[repr(C)]
@@ -26,7 +27,7 @@ pub extern "C" fn hwsq_audit<'a>(
 ) -> AuditReply
     ensures { λ r. ⌜ HwsqAudit family (now (code .entry)) (now (marks .entry)) entry (now (ranges .entry)) r ⌝ }
 {
-    audit_reply(audit::audit(family, code, marks, entry, ranges))
+    audit_reply(audit::audit(family, code, marks, CodeAddress(entry), ranges))
 }
 
 fn audit_reply(verdict: Verdict) -> AuditReply

@@ -1,6 +1,7 @@
 // Replay, its answer as numbers.
 ghost use mathlib.Core.Path.{_≡_};
 ghost use Rattle.capi_replay.specs.Replays.{endingNumber, endedReply, unreplayedReply, replayReply, HwsqReplay};
+use isa::CodeAddress;
 use isa::MmioAddress;
 use run::Ending;
 use run::ReplayAnswer;
@@ -53,7 +54,7 @@ pub extern "C" fn hwsq_replay<'a>(
         family,
         code,
         marks,
-        entry,
+        CodeAddress(entry),
         MmioAddress(addr),
         data,
         flags_0,

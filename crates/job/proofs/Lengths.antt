@@ -3,10 +3,11 @@ use Prim.Native.Nat.{ℕ, zero, suc, _+_, _*_, _/_, _%_, _≤_}
 use mathlib.Core.Path.{_≡_, refl}
 use mathlib.Core.List.{List, [], _∷_}
 use native.Mathlib.Omega.{arith}
+use lib.Count.{onesIn}
 use lib.Dec.{eqb}
 use lib.ListN.{length, length-append, length-take}
 use Rattle.isa.proofs.Tests.{cond-elim}
-use Rattle.coverage.specs.Coverage.{onesIn, readingCount, lowestZero, firstMissing}
+use Rattle.coverage.specs.Coverage.{readingCount, lowestZero, firstMissing}
 use Rattle.log.specs.declared.place.Place.{Place}
 use Rattle.refusals.specs.Number.{faultNumber}
 use Rattle.run.specs.Run.{Write}

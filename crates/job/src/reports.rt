@@ -70,7 +70,7 @@ fn put_run(out: &mut [u8; 65536], at: usize, job: Job) -> usize
     ensures { λ r. ⌜ Stored (now (out .entry)) at (runLines job) r (now (out .exit)) ⌝ }
 {
     // two entries a write, and a script makes at most 170
-    let mut entries = [0u32; 340];
+    let mut entries = [0u32; replay::MAX_ENTRIES];
     let answer = replay_job(job, &mut entries);
     match answer {
         ReplayAnswer::Ended(told) => {

@@ -13,6 +13,7 @@ ghost use Rattle.job.specs.Script.{verdictOf, modeOf, stateAfter, wordOf
 ghost use Rattle.job.specs.Inside.{RunsJob};
 use execution::executing_slot;
 use flags::Flags;
+use isa::CodeAddress;
 use isa::MmioAddress;
 use records::Job;
 use registers::Reading;
@@ -32,12 +33,12 @@ fn audit_code(
     family: u8,
     code: [u8; 512],
     marks: [u8; 512],
-    entry: usize,
+    entry: CodeAddress,
     bounds: [u32; 128],
     ranges: usize,
 ) -> Verdict
     requires { ⌜ ranges ≤ maxRanges ⌝ }
-    ensures { λ r. ⌜ r ≡ auditOf family (take (codeSize family) code) (take (codeSize family) marks) entry (take (2 * ranges) bounds) ⌝ }
+    ensures { λ r. ⌜ r ≡ auditOf family (take (codeSize family) code) (take (codeSize family) marks) (entry .0) (take (2 * ranges) bounds) ⌝ }
 {
     let size = families::code_size(family);
     let count = 2 * ranges;
@@ -64,7 +65,7 @@ pub(crate) fn verdict_of(job: Job) -> Verdict
         state.family,
         code,
         marks,
-        slot.ip.0,
+        slot.ip,
         bounds,
         job.counts.ranges,
     )
@@ -95,7 +96,7 @@ fn replay_code(
         family,
         &code[..size],
         &marks[..size],
-        slot.ip.0,
+        slot.ip,
         addr,
         slot.data,
         flags_0,

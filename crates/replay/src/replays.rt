@@ -10,7 +10,7 @@ ghost use Rattle.flags.specs.Flags.{flagsFromWords};
 ghost use Rattle.turn.specs.Turn.{turnOf};
 ghost use Rattle.script.specs.Input.{scriptFits};
 ghost use Rattle.run.specs.Run.{wroteBy, fetchedBy};
-ghost use Rattle.run.specs.Replay.{endingOf, entriesOf, Replays};
+ghost use Rattle.run.specs.Replay.{maxEntries, endingOf, entriesOf, Replays};
 ghost use Rattle.replay.specs.Progress.{progressAfter, toldAt, RunsThrough};
 use flags::Flags;
 use isa::CodeAddress;
@@ -28,7 +28,7 @@ use turn::Effect;
 use turn::Turn;
 
 // Two entries a write, and a script of 512 bytes makes at most 170 writes.
-const MAX_ENTRIES: usize = 340;
+pub const MAX_ENTRIES: usize = 340;
 
 // Where a run stands.
 pub struct Progress {
@@ -48,7 +48,7 @@ pub fn replay<'a>(
     family: u8,
     code: &'a [u8],
     marks: &'a [u8],
-    entry: usize,
+    entry: CodeAddress,
     addr: MmioAddress,
     data: u32,
     flags_0: u32,
@@ -59,7 +59,7 @@ pub fn replay<'a>(
     values: &'a [u32],
     writes: &mut [u32],
 ) -> ReplayAnswer
-    ensures { λ r. ⌜ Replays family (now (code .entry)) (now (marks .entry)) entry (addr .0) «data» «flags_0» «flags_1» enable (now (clocks .entry)) (now (known .entry)) (now (values .entry)) (now (writes .entry)) (now (writes .exit)) r ⌝ }
+    ensures { λ r. ⌜ Replays family (now (code .entry)) (now (marks .entry)) (entry .0) (addr .0) «data» «flags_0» «flags_1» enable (now (clocks .entry)) (now (known .entry)) (now (values .entry)) (now (writes .entry)) (now (writes .exit)) r ⌝ }
 {
     if !script_fits(family, code, marks, entry) {
         return ReplayAnswer::Refused(Unreplayable::Input);
@@ -88,14 +88,14 @@ pub fn replay<'a>(
     ReplayAnswer::Ended(told(last, clocks))
 }
 
-fn begin(entry: usize, addr: MmioAddress, data: u32, flags_0: u32, flags_1: u32) -> Progress
-    ensures { λ r. ⌜ r ≡ record { slot = record { mode = Mode.Running; ip = record { 0 = entry }; addr = addr; «data» = «data» }; flags = flagsFromWords «flags_0» «flags_1»; place = record { row = 0; used = 0 }; steps = 0; used = 0; waited = 0; searched = 0 } ⌝ }
+fn begin(entry: CodeAddress, addr: MmioAddress, data: u32, flags_0: u32, flags_1: u32) -> Progress
+    ensures { λ r. ⌜ r ≡ record { slot = record { mode = Mode.Running; ip = entry; addr = addr; «data» = «data» }; flags = flagsFromWords «flags_0» «flags_1»; place = record { row = 0; used = 0 }; steps = 0; used = 0; waited = 0; searched = 0 } ⌝ }
 {
     let flags = flags::flags_from_words(flags_0, flags_1);
     Progress {
         slot: Slot {
             mode: Mode::Running,
-            ip: CodeAddress(entry),
+            ip: entry,
             addr,
             data,
         },
@@ -124,7 +124,7 @@ fn take_turn<'a>(
     let slot = progress.slot;
     let flags = progress.flags;
     let place = progress.place;
-    let ip = slot.ip.0;
+    let ip = slot.ip;
     let found = fetch::fetch(family, code, marks, ip);
     let Decoded::Instruction(instruction, length) = found else {
         let why = fetch::reason_of(found);
@@ -133,7 +133,14 @@ fn take_turn<'a>(
     };
     let action = actions::action_of(instruction);
     let elapsed = time::elapse(action, clocks, known, values, place);
-    turn::perform(enable, slot, flags, action, ip + length, elapsed)
+    turn::perform(
+        enable,
+        slot,
+        flags,
+        action,
+        CodeAddress(ip.0 + length),
+        elapsed,
+    )
 }
 
 // Whether an effect is a fetched instruction, as 0 or 1.
@@ -206,7 +213,7 @@ fn run_turns<'a>(
     family: u8,
     code: &'a [u8],
     marks: &'a [u8],
-    entry: usize,
+    entry: CodeAddress,
     addr: MmioAddress,
     data: u32,
     flags_0: u32,
@@ -217,8 +224,8 @@ fn run_turns<'a>(
     values: &'a [u32],
     writes: &mut [u32],
 ) -> Progress
-    requires { ⌜ (scriptFits family (now code) (now marks) entry ≡ true) × (validLog (now clocks) (now known) (now values) ≡ true) × (340 ≤ length (now writes)) ⌝ }
-    ensures { λ r. ⌜ RunsThrough family (now (code .entry)) (now (marks .entry)) entry (addr .0) «data» «flags_0» «flags_1» enable (now (clocks .entry)) (now (known .entry)) (now (values .entry)) (now (writes .entry)) (now (writes .exit)) r ⌝ }
+    requires { ⌜ (scriptFits family (now code) (now marks) (entry .0) ≡ true) × (validLog (now clocks) (now known) (now values) ≡ true) × (maxEntries ≤ length (now writes)) ⌝ }
+    ensures { λ r. ⌜ RunsThrough family (now (code .entry)) (now (marks .entry)) (entry .0) (addr .0) «data» «flags_0» «flags_1» enable (now (clocks .entry)) (now (known .entry)) (now (values .entry)) (now (writes .entry)) (now (writes .exit)) r ⌝ }
 {
     let limit = families::code_size(family) + 1;
     let mut progress = begin(entry, addr, data, flags_0, flags_1);

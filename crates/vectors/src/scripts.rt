@@ -7,6 +7,7 @@ use crate::show;
 use crate::words;
 use crate::words::Head;
 use crate::words::Words;
+use isa::CodeAddress;
 use isa::MmioAddress;
 use run::Ending;
 use run::ReplayAnswer;
@@ -73,7 +74,7 @@ fn judge(ram: Ram, words: Words, k: usize, family: u8, entry: usize)
     let code_part = ram::part(&code, ram.size);
     let marks = ram.marks;
     let marks_part = ram::part(&marks, ram.marked);
-    show_verdict(audit::audit(family, code_part, marks_part, entry, ranges));
+    show_verdict(audit::audit(family, code_part, marks_part, CodeAddress(entry), ranges));
 }
 
 fn show_verdict(verdict: Verdict) {
@@ -155,7 +156,7 @@ fn run_code<'a>(
         start.family,
         code,
         marks,
-        entry,
+        CodeAddress(entry),
         MmioAddress(start.addr),
         start.data,
         start.flags_0,

@@ -15,15 +15,15 @@ use Rattle.audit.proofs.auditor.audit.Statement.{statement}
 use Rattle.audit.proofs.auditor.audit.Tie as tie
 
 -- the code's elements are bytes, so the claim holds of the defined verdict
-audits : (c : tie.After-shared-slice-known) {r : Verdict} → r ≡ auditOf (c .before .args .family) (now (c .before .args .code)) (now (c .before .args .marks)) (c .before .args .entry) (now (c .before .args .ranges))
-    → Audits (c .before .args .family) (now (c .before .args .code)) (now (c .before .args .marks)) (c .before .args .entry) (now (c .before .args .ranges)) r
+audits : (c : tie.After-shared-slice-known) {r : Verdict} → r ≡ auditOf (c .before .args .family) (now (c .before .args .code)) (now (c .before .args .marks)) (c .before .args .entry .0) (now (c .before .args .ranges))
+    → Audits (c .before .args .family) (now (c .before .args .code)) (now (c .before .args .marks)) (c .before .args .entry .0) (now (c .before .args .ranges)) r
 audits c e =
     let a = c .before .args in
     record {
       answered = e;
-      numbered = ap verdictNumber e ∙ audit-numbered (a .family) (now (a .code)) (now (a .marks)) (a .entry) (now (a .ranges));
-      demand3 = subst (Demand3 (a .family) (now (a .code)) (now (a .marks)) (a .entry) (now (a .ranges))) (sym e)
-          (demand3 (a .family) (now (a .code)) (now (a .marks)) (a .entry) (now (a .ranges)) (λ (i : ℕ). c .shared-slice-known .given i .fits));
+      numbered = ap verdictNumber e ∙ audit-numbered (a .family) (now (a .code)) (now (a .marks)) (a .entry .0) (now (a .ranges));
+      demand3 = subst (Demand3 (a .family) (now (a .code)) (now (a .marks)) (a .entry .0) (now (a .ranges))) (sym e)
+          (demand3 (a .family) (now (a .code)) (now (a .marks)) (a .entry .0) (now (a .ranges)) (λ (i : ℕ). c .shared-slice-known .given i .fits));
       starred = starred;
     }
 

@@ -24,10 +24,10 @@ use Rattle.audit.proofs.auditor.walk.Statement.{statement}
 use Rattle.audit.proofs.auditor.walk.Tie as tie
 
 abbrev Inv-loop : tie.InvT-loop
-Inv-loop family code marks entry ranges at₀ known₀ at known = Going family code marks ranges at₀ at known
+Inv-loop family code marks ranges at₀ known₀ at known = Going family code marks ranges at₀ at known
 
 abbrev μ-loop : tie.MeasureT-loop
-μ-loop family code marks entry ranges at₀ known₀ at known = 512 - at
+μ-loop family code marks ranges at₀ known₀ at known = 512 - at
 
 -- what was found, and where it lies
 module _ (c : tie.After-found Inv-loop μ-loop) where
@@ -54,9 +54,9 @@ judged c =
 loop-holds : tie.Need-loop-holds Inv-loop μ-loop
 loop-holds c =
     let a = c .before .before .before .before in
-    let entry = fits-script (a .args .family) (now (a .args .code)) (now (a .args .marks)) (a .args .entry) (both-left _ _ (a .pre)) .entry-low in
-    subst (Going (a .args .family) (now (a .args .code)) (now (a .args .marks)) (now (a .args .ranges)) (a .args .entry) (a .args .entry)) (sym (c .know-nothing .ensures))
-    (going-first (a .args .family) (now (a .args .code)) (now (a .args .marks)) (now (a .args .ranges)) (a .args .entry) (omega (arith, entry)))
+    let entry = fits-script (a .args .family) (now (a .args .code)) (now (a .args .marks)) (a .args .entry .0) (both-left _ _ (a .pre)) .entry-low in
+    subst (Going (a .args .family) (now (a .args .code)) (now (a .args .marks)) (now (a .args .ranges)) (a .args .entry .0) (a .args .entry .0)) (sym (c .know-nothing .ensures))
+    (going-first (a .args .family) (now (a .args .code)) (now (a .args .marks)) (now (a .args .ranges)) (a .args .entry .0) (omega (arith, entry)))
 
 know-next-requires : tie.Need-know-next-requires Inv-loop μ-loop
 know-next-requires c κs =
@@ -78,11 +78,11 @@ loop-again c =
     let a = args f .args in
     let next : c .know-next .result ≡ knowNext (actionOf (f .found .given .0 .0)) (f .before .before .before .loop .known) =
     c .know-next .ensures ∙ ap (λ (x : Action). knowNext x (f .before .before .before .loop .known)) (j .before .action-of .ensures) in
-    subst (Going (a .family) (now (a .code)) (now (a .marks)) (now (a .ranges)) (a .entry) (at f + f .found .given .0 .1 .0)) (sym next)
+    subst (Going (a .family) (now (a .code)) (now (a .marks)) (now (a .ranges)) (a .entry .0) (at f + f .found .given .0 .1 .0)) (sym next)
     (going-on _ _ _ _ (f .before .before .before .loop .inv) (f .found .given .0 .0) (f .found .given .0 .1 .0) (fetched f) (inside f .0) (inside f .1) (sym (judged j) ∙ c .before .enum-told2 .given .1))
 
-add-t20 : tie.Need-add-t20 Inv-loop μ-loop
-add-t20 c = let l = c .before .before .before .before .before .before .before .before .before in omega (arith, l .loop .inv .counted, l .loop .inv .low)
+add-count : tie.Need-add-t21 Inv-loop μ-loop
+add-count c = let l = c .before .before .before .before .before .before .before .before .before in omega (arith, l .loop .inv .counted, l .loop .inv .low)
 
 returns : tie.Need-returns Inv-loop μ-loop
 returns c =
@@ -125,7 +125,7 @@ walk-spec =
     loop-less
     loop-again
     (λ c. search needs)
-    add-t20
+    add-count
     (λ c. search needs)
     returns
     returns-2

@@ -34,17 +34,17 @@ told-is clocks known values log r = rw (halves, fits)
 -- the defined answer, whose endings are right
 module _ (c : tie.Start) where
   replays : {new : List ℕ} {r : ReplayAnswer}
-      → r ≡ replayOf (c .args .family) (now (c .args .code)) (now (c .args .marks)) (c .args .entry) (c .args .addr .0) (c .args .«data») (c .args .flags-0) (c .args .flags-1) (c .args .enable) (now (c .args .clocks)) (now (c .args .known)) (now (c .args .values)) (length (now (c .args .writes)))
-      → new ≡ lentAfter (c .args .family) (now (c .args .code)) (now (c .args .marks)) (c .args .entry) (c .args .addr .0) (c .args .«data») (c .args .flags-0) (c .args .flags-1) (c .args .enable) (now (c .args .clocks)) (now (c .args .known)) (now (c .args .values)) (now (c .args .writes)) r
-      → Replays (c .args .family) (now (c .args .code)) (now (c .args .marks)) (c .args .entry) (c .args .addr .0) (c .args .«data») (c .args .flags-0) (c .args .flags-1) (c .args .enable) (now (c .args .clocks)) (now (c .args .known)) (now (c .args .values)) (now (c .args .writes)) new r
+      → r ≡ replayOf (c .args .family) (now (c .args .code)) (now (c .args .marks)) (c .args .entry .0) (c .args .addr .0) (c .args .«data») (c .args .flags-0) (c .args .flags-1) (c .args .enable) (now (c .args .clocks)) (now (c .args .known)) (now (c .args .values)) (length (now (c .args .writes)))
+      → new ≡ lentAfter (c .args .family) (now (c .args .code)) (now (c .args .marks)) (c .args .entry .0) (c .args .addr .0) (c .args .«data») (c .args .flags-0) (c .args .flags-1) (c .args .enable) (now (c .args .clocks)) (now (c .args .known)) (now (c .args .values)) (now (c .args .writes)) r
+      → Replays (c .args .family) (now (c .args .code)) (now (c .args .marks)) (c .args .entry .0) (c .args .addr .0) (c .args .«data») (c .args .flags-0) (c .args .flags-1) (c .args .enable) (now (c .args .clocks)) (now (c .args .known)) (now (c .args .values)) (now (c .args .writes)) new r
   replays e l =
       let a = c .args in
       record {
         answered = e;
-        numbered = ap answerNumber e ∙ replay-numbered (a .family) (now (a .code)) (now (a .marks)) (a .entry) (a .addr .0) (a .«data») (a .flags-0) (a .flags-1) (a .enable) (now (a .clocks)) (now (a .known)) (now (a .values)) (length (now (a .writes)));
+        numbered = ap answerNumber e ∙ replay-numbered (a .family) (now (a .code)) (now (a .marks)) (a .entry .0) (a .addr .0) (a .«data») (a .flags-0) (a .flags-1) (a .enable) (now (a .clocks)) (now (a .known)) (now (a .values)) (length (now (a .writes)));
         lent = l;
-        ends = subst (EndsRight (a .family) (now (a .code)) (now (a .marks)) (a .entry) (a .addr .0) (a .«data») (a .flags-0) (a .flags-1) (a .enable) (now (a .clocks)) (now (a .known)) (now (a .values))) (sym e)
-            (replay-ends-right (a .family) (now (a .code)) (now (a .marks)) (a .entry) (a .addr .0) (a .«data») (a .flags-0) (a .flags-1) (a .enable) (now (a .clocks)) (now (a .known)) (now (a .values)) (length (now (a .writes))));
+        ends = subst (EndsRight (a .family) (now (a .code)) (now (a .marks)) (a .entry .0) (a .addr .0) (a .«data») (a .flags-0) (a .flags-1) (a .enable) (now (a .clocks)) (now (a .known)) (now (a .values))) (sym e)
+            (replay-ends-right (a .family) (now (a .code)) (now (a .marks)) (a .entry .0) (a .addr .0) (a .«data») (a .flags-0) (a .flags-1) (a .enable) (now (a .clocks)) (now (a .known)) (now (a .values)) (length (now (a .writes))));
       }
 
 returns : tie.Need-returns
@@ -85,7 +85,7 @@ returns-4 c =
     let a = e .before .before .before .before .before .before .before .before .args in
     let log = sym (l .before .valid-log .ensures) ∙ not-false _ (l .if3 .left) in
     replays (e .before .before .before .before .before .before .before .before)
-    (ap ReplayAnswer.Ended (c .told .ensures ∙ ap (toldAt (now (a .clocks))) (t .run-turns .ensures .at-run) ∙ told-is (now (a .clocks)) (now (a .known)) (now (a .values)) log (replayedRun (a .family) (now (a .code)) (now (a .marks)) (a .entry) (a .addr .0) (a .«data») (a .flags-0) (a .flags-1) (a .enable) (now (a .clocks)) (now (a .known)) (now (a .values))))
+    (ap ReplayAnswer.Ended (c .told .ensures ∙ ap (toldAt (now (a .clocks))) (t .run-turns .ensures .at-run) ∙ told-is (now (a .clocks)) (now (a .known)) (now (a .values)) log (replayedRun (a .family) (now (a .code)) (now (a .marks)) (a .entry .0) (a .addr .0) (a .«data») (a .flags-0) (a .flags-1) (a .enable) (now (a .clocks)) (now (a .known)) (now (a .values))))
     ∙ simp (sym (e .before .script-fits .ensures) ∙ not-false _ (e .if1 .left), le-leb 340 (length (now (e .before .before .before .before .before .before .before .before .args .writes))) (omega (arith, room .if2 .left)), log))
     (t .run-turns .ensures .lent)
 
