@@ -4,6 +4,8 @@ use Rattle.families.specs.Family.{codeSize}
 use borrow.Author.Tests.{not-true, not-false, eq-eqb, ne-eqb}
 use lib.ListN.{length}
 use mathlib.Core.Path.{sym, _∙_}
+use mathlib.Core.Bool.{and-false}
+use native.Mathlib.Omega.{arith}
 use denote.Ref.{now}
 use borrow.Author.Needs.{needs}
 use Rattle.script.proofs.input.script_fits.Statement.{statement}
@@ -24,7 +26,7 @@ unfolding scriptFits
 returns-3 c =
     let k = c .before .before in
     let a = k .before .before .before .before .before .before .args in
-    simp (sym (k .before .before .before .known-family .ensures) ∙ not-false _ (k .before .before .if1 .left), eq-eqb (length (now (a .code))) (codeSize (a .family)) (k .if2 .left ∙ k .before .code-size .ensures), ne-eqb (length (now (a .marks))) (codeSize (a .family)) (λ e. c .if3 .taken (e ∙ sym (c .before .code-size2 .ensures))))
+    simp (sym (k .before .before .before .known-family .ensures) ∙ not-false _ (k .before .before .if1 .left), eq-eqb (length (now (a .code))) (codeSize (a .family)) (k .if2 .left ∙ k .before .code-size .ensures), ne-eqb (length (now (a .marks))) (codeSize (a .family)) (omega (arith, k .before .code-size .ensures, c .before .code-size2 .ensures)))
 
 returns-4 : tie.Need-returns-4
 unfolding scriptFits
@@ -32,7 +34,7 @@ returns-4 c =
     let j = c .before .before in
     let k = j .before .before in
     let a = k .before .before .before .before .before .before .args in
-    simp (sym (k .before .before .before .known-family .ensures) ∙ not-false _ (k .before .before .if1 .left), eq-eqb (length (now (a .code))) (codeSize (a .family)) (k .if2 .left ∙ k .before .code-size .ensures), eq-eqb (length (now (a .marks))) (codeSize (a .family)) (j .if3 .left ∙ j .before .code-size2 .ensures), sym (c .before .marks-plain .ensures) ∙ not-true _ (c .if4 .taken))
+    simp (sym (k .before .before .before .known-family .ensures) ∙ not-false _ (k .before .before .if1 .left), eq-eqb (length (now (a .code))) (codeSize (a .family)) (k .if2 .left ∙ k .before .code-size .ensures), sym (c .before .marks-plain .ensures) ∙ not-true _ (c .if4 .taken), and-false)
 
 returns-5 : tie.Need-returns-5
 unfolding scriptFits
@@ -41,7 +43,7 @@ returns-5 c =
     let j = i .before .before in
     let k = j .before .before in
     let a = k .before .before .before .before .before .before .args in
-    simp (sym (k .before .before .before .known-family .ensures) ∙ not-false _ (k .before .before .if1 .left), eq-eqb (length (now (a .code))) (codeSize (a .family)) (k .if2 .left ∙ k .before .code-size .ensures), eq-eqb (length (now (a .marks))) (codeSize (a .family)) (j .if3 .left ∙ j .before .code-size2 .ensures), sym (i .before .marks-plain .ensures) ∙ not-false _ (i .if4 .left), c .highest-entry .ensures)
+    simp (sym (k .before .before .before .known-family .ensures) ∙ not-false _ (k .before .before .if1 .left), eq-eqb (length (now (a .code))) (codeSize (a .family)) (k .if2 .left ∙ k .before .code-size .ensures), eq-eqb (length (now (a .marks))) (codeSize (a .family)) (omega (arith, k .before .code-size .ensures, j .before .code-size2 .ensures)), sym (i .before .marks-plain .ensures) ∙ not-false _ (i .if4 .left), c .highest-entry .ensures)
 
 pub script-fits-spec : {M : Type 1} → statement M
 script-fits-spec =
