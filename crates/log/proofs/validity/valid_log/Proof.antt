@@ -1,5 +1,6 @@
 -- Each way out is the case of `validLog` whose tests led there. Assumes nothing.
 use denote.Ref.{now}
+use native.Mathlib.Omega.{arith}
 use lib.ListN.{length}
 use borrow.Author.Needs.{needs}
 use borrow.Author.Tests.{le-leb, lt-leb, eq-eqb, ne-eqb}
@@ -11,25 +12,25 @@ returns : tie.Need-returns
 unfolding validLog
 returns c =
     let a = c .before .before .before .before .args in
-    rw (lt-leb (length (now (a .clocks))) 1024 (c .if1 .taken))
+    rw (lt-leb (length (now (a .clocks))) 1024 (omega arith))
 
 returns-2 : tie.Need-returns-2
 unfolding validLog
 returns-2 c =
     let a = c .before .before .before .before .before .args in
-    rw (le-leb (length (now (a .clocks))) 1024 (c .before .if1 .left), ne-eqb (length (now (a .known))) (length (now (a .clocks))) (c .if2 .taken))
+    rw (le-leb (length (now (a .clocks))) 1024 (omega arith), ne-eqb (length (now (a .known))) (length (now (a .clocks))) (c .if2 .taken))
 
 returns-3 : tie.Need-returns-3
 unfolding validLog
 returns-3 c =
     let a = c .before .before .before .before .before .before .args in
-    rw (le-leb (length (now (a .clocks))) 1024 (c .before .before .if1 .left), eq-eqb (length (now (a .known))) (length (now (a .clocks))) (c .before .if2 .left), ne-eqb (length (now (a .values))) (length (now (a .clocks))) (c .if3 .taken))
+    rw (le-leb (length (now (a .clocks))) 1024 (c .before .before .if1 .left), eq-eqb (length (now (a .known))) (length (now (a .clocks))) (c .before .if2 .left), ne-eqb (length (now (a .values))) (length (now (a .clocks))) (omega arith))
 
 returns-4 : tie.Need-returns-4
 unfolding validLog
 returns-4 c =
     let a = c .before .before .before .before .before .before .before .args in
-    rw (le-leb (length (now (a .clocks))) 1024 (c .before .before .before .if1 .left), eq-eqb (length (now (a .known))) (length (now (a .clocks))) (c .before .before .if2 .left), eq-eqb (length (now (a .values))) (length (now (a .clocks))) (c .before .if3 .left)) (c .rows-in-range .ensures)
+    rw (le-leb (length (now (a .clocks))) 1024 (c .before .before .before .if1 .left), eq-eqb (length (now (a .known))) (length (now (a .clocks))) (c .before .before .if2 .left), eq-eqb (length (now (a .values))) (length (now (a .clocks))) (omega arith)) (c .rows-in-range .ensures)
 
 pub valid-log-spec : {M : Type 1} → statement M
 valid-log-spec = tie.close (tie.spec returns returns-2 returns-3 (λ c κs. search needs) returns-4)

@@ -7,22 +7,22 @@ use Rattle.reader.proofs.opcodes.opcode_at.Statement.{statement}
 use Rattle.reader.proofs.opcodes.opcode_at.Tie as tie
 
 returns : tie.Need-returns
-returns c = c .later-only .ensures ∙ addr-lo _ _ (omega arith)
+returns c = c .later-only .ensures ∙ addr-lo (c .before .before .args .family) (c .before .before .args .first) (omega arith)
 
 returns-2 : tie.Need-returns-2
-returns-2 c = c .later-only2 .ensures ∙ data-lo _ _ (omega arith)
+returns-2 c = c .later-only2 .ensures ∙ data-lo (c .before .before .args .family) (c .before .before .args .first) (omega arith)
 
 returns-3 : tie.Need-returns-3
-returns-3 c = c .later-only3 .ensures ∙ ewait _ _ (omega arith)
+returns-3 c = c .later-only3 .ensures ∙ ewait (c .before .before .args .family) (c .before .before .args .first) (omega arith)
 
 returns-4 : tie.Need-returns-4
 returns-4 c = exit _ _ (omega arith)
 
 returns-5 : tie.Need-returns-5
-returns-5 c = c .later-only4 .ensures ∙ addr _ _ (omega arith)
+returns-5 c = c .later-only4 .ensures ∙ addr (c .before .before .args .family) (c .before .before .args .first) (omega arith)
 
 returns-6 : tie.Need-returns-6
-returns-6 c = c .later-only5 .ensures ∙ data32 _ _ (omega arith)
+returns-6 c = c .later-only5 .ensures ∙ data32 (c .before .before .args .family) (c .before .before .args .first) (omega arith)
 
 returns-7 : tie.Need-returns-7
 returns-7 c = wait _ _ (omega arith)

@@ -140,7 +140,7 @@ loop-holds c =
 returns : tie.Need-returns Inv-loop μ-loop
 returns c =
     let l = c .before .before .before .before .before .before .before .before .before in
-    let e = c .read-at .ensures in
+    let e : c .read-at .result ≡ readAt (c .before .before .refusal-of .result) (l .loop .at) (l .loop .job) = c .read-at .ensures in
     let n = number-is (c .before .before) in
     record {
       answered = e ∙ ap (λ (m : ℕ). readAt m (l .loop .at) (l .loop .job)) n ∙ read-fault (input l) (l .loop .at) (l .loop .job) (readIn (suc (length (input l))) (input l) 0 emptyJob) (l .loop .inv .4 .0) (l .loop .inv .0) (l .loop .inv .4 .1) (λ z. c .before .if3 .taken (n ∙ z)) (l .loop .inv .4 .2);

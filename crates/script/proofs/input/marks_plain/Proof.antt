@@ -17,10 +17,10 @@ abbrev μ-loop : tie.MeasureT-loop
 μ-loop marks i₀ i = length marks - i
 
 returns : tie.Need-returns Inv-loop μ-loop
-returns c = let l = c .before .before .before in plain-not (now (l .before .args .marks)) (l .loop .i) (omega arith) (c .if1 .taken) ∙ l .loop .inv
+returns c = let l = c .before .before .before in plain-not (now (l .before .args .marks)) (l .loop .i) (omega arith) (omega (arith, c .if1 .taken)) ∙ l .loop .inv
 
 loop-again : tie.Need-loop-again Inv-loop μ-loop
-loop-again c = let l = c .before .before .before in plain-next (now (l .before .args .marks)) (l .loop .i) (omega arith) (c .if1 .left) ∙ l .loop .inv
+loop-again c = let l = c .before .before .before in plain-next (now (l .before .args .marks)) (l .loop .i) (omega arith) (omega (arith, c .if1 .left)) ∙ l .loop .inv
 
 returns-2 : tie.Need-returns-2 Inv-loop μ-loop
 returns-2 c = let l = c .before in plain-end (now (l .before .args .marks)) (l .loop .i) (omega arith) ∙ l .loop .inv

@@ -22,7 +22,7 @@ returns c = let l = c .before .before in paired-alone (now (l .before .args .ran
 returns-2 : tie.Need-returns-2 Inv-loop μ-loop
 returns-2 c =
     let l = c .before .before .before .before .before in
-    paired-not (now (l .before .args .ranges)) (l .loop .i) (omega arith) (c .if2 .taken) ∙ l .loop .inv
+    paired-not (now (l .before .args .ranges)) (l .loop .i) (omega arith) (omega (arith, c .if2 .taken)) ∙ l .loop .inv
 
 loop-again : tie.Need-loop-again Inv-loop μ-loop
 loop-again c =

@@ -31,7 +31,7 @@ loop-holds c = (refl, search needs, search needs, search needs, append-nil (deci
 loop-again : tie.Need-loop-again Inv-loop μ-loop
 loop-again c =
     let l = c .before .loop in
-    let next = down (l .first) (l .rest) (l .inv .3) (c .loop-test .taken) in (
+    let next = down (l .first) (l .rest) (l .inv .3) (omega (arith, c .loop-test .taken)) in (
       length-set (l .text) (l .first - 1) (digit (l .rest % 10)) ∙ l .inv .0,
       search needs,
       next .0,
