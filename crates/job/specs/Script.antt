@@ -2,8 +2,7 @@
 use Prim.Native.Nat.{ℕ}
 use mathlib.Core.Bool.{cond}
 use mathlib.Core.List.{List}
-use lib.ListN.{take}
-use Rattle.families.specs.Family.{codeSize}
+use Rattle.fetch.specs.Fetch.{codeRam}
 use Rattle.flags.specs.Flags.{flagsWord0, flagsWord1, flagsFromWords}
 use Rattle.state.specs.Slot.{slotOf, withSlot}
 use Rattle.state.specs.declared.slots.Mode.{Mode}
@@ -28,10 +27,10 @@ executing s = slotOf s (executingSlot s)
 
 -- the family's code RAM, and its upload marks
 abbrev pub codeOf : State → List ℕ
-codeOf s = take (codeSize (s .family)) (s .code)
+codeOf s = codeRam (s .family) (s .code)
 
 abbrev pub marksOf : State → List ℕ
-marksOf s = take (codeSize (s .family)) (s .marks)
+marksOf s = codeRam (s .family) (s .marks)
 
 -- the script starts where the executing slot's IP stands
 abbrev pub entryOf : State → ℕ
