@@ -205,7 +205,7 @@ module _ (family : ℕ) (code marks : List ℕ) (entry : ℕ) (ranges : List ℕ
     pub means : VerdictMeans verdict
     -- 9 exactly where its row says: there, and by `means` nowhere else
     pub input : inputFits family code marks entry ranges ≡ false → verdict ≡ Verdict.Fault Fault.Input (record { 0 = 0 })
-    -- "unless refused, replay answers for the run": of a script with a fault too
+    -- "replay answers what the steps give": of a script with a fault too, if replay takes it
     pub replays : scriptFits family code marks entry ≡ true → ReplayTellsAll
     -- a script that may be audited has starts, so that what is said of every start is said of some
     pub starts : inputFits family code marks entry ranges ≡ true → (s : State) × (Start family code marks entry SlotName.A s)
