@@ -2,7 +2,7 @@
 use lib.Ieee.{le}
 use mathlib.Core.Path.{_≡_}
 use mathlib.Core.Bool.{true, false}
-use Rattle.probe.specs.Reading.{atLow, atHigh}
+use Rattle.probe.specs.Reading.{atHigh}
 use Rattle.probe.proofs.gate.at_levels.Statement.{statement}
 use Rattle.probe.proofs.gate.at_levels.Tie as tie
 
