@@ -156,9 +156,12 @@ module _ (x : Script) (name : SlotName) (log : Log) where
       pub goes-on : elapsed .finished ≡ true → Agree addr word (p + n) (knowNext action k) (next name log r)
       goes-on d = rw performs (done-agrees elapsed lapsed after-steady d)
 
+      pub held-up : elapsed .finished ≡ false → Held (next name log r)
+      held-up d = rw performs (cut-holds elapsed lapsed after-steady d)
+
       pub one-step : (Agree addr word (p + n) (knowNext action k) (next name log r)) ⊎ (Held (next name log r))
       one-step = by (elapsed .finished) refl
         where
           by : (b : Bool) → elapsed .finished ≡ b → (Agree addr word (p + n) (knowNext action k) (next name log r)) ⊎ (Held (next name log r))
           by true d = inl (goes-on d)
-          by false d = inr (rw performs (cut-holds elapsed lapsed after-steady d))
+          by false d = inr (held-up d)

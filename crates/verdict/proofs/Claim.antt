@@ -4,7 +4,6 @@ use mathlib.Core.Path.{_≡_, refl}
 use mathlib.Core.Bool.{Bool, true, false, cond, not}
 use mathlib.Core.List.{List}
 use native.Mathlib.Omega.{arith}
-use lib.Dec.{lit<}
 use lib.ListN.{getD}
 use Rattle.families.specs.Family.{codeSize}
 use Rattle.isa.proofs.Tests.{both-left, cond-elim}
@@ -19,8 +18,10 @@ use Rattle.script.proofs.Scripts.{Script, Log, fits-script, Auditable}
 use Rattle.run.proofs.Runs.{run-snoc}
 use Rattle.verdict.proofs.Walk.{Walk, Ends, at-refused, at-bad, at-exit, Walked, audit-walks}
 use Rattle.verdict.proofs.Soundness.{earlier, exit-step, sound}
+use Rattle.verdict.proofs.Cases.{never}
+use Rattle.verdict.proofs.SameWrites.{same-writes}
 use Rattle.verdict.proofs.WitnessLog.{actions, witnessLog, witness-valid, witness-masks, bounded, bounded-start, reach}
-use Rattle.verdict.proofs.Starts.{begun-agrees, someState, some-start}
+use Rattle.verdict.proofs.Starts.{begun-agrees, starts-in}
 use Rattle.verdict.proofs.Faults.{refused, blamed}
 use Rattle.verdict.proofs.ReplayLaws.{replay-tells}
 
@@ -34,6 +35,10 @@ module _ (x : Script) (entry : ℕ) (fit : Auditable x entry) (fits-so : scriptF
         let log : Log = record { clocks = clocks; known = known; values = values } in
         earlier x entry name log (omega arith)
         (sound x entry name log e unpaused w (begun-agrees x entry (fit .fits) name s start log valid) m);
+    same-writes = λ name name′ s s′ start start′ clocks known values valid m.
+        let log : Log = record { clocks = clocks; known = known; values = values } in
+        same-writes x log name name′ entry e unpaused w (begun-agrees x entry (fit .fits) name s start log valid) (begun-agrees x entry (fit .fits) name′ s′ start′ log valid)
+        (record { place = refl; writes = refl; held = λ h. never (cc) }) m;
     bounded = omega (arith, bounded w bounded-start .count, e .some, e .inside);
     reaches = λ name s start.
         let log = witnessLog x w in
@@ -74,7 +79,7 @@ demand3 family code marks entry ranges bytes = record {
       (λ i. (i, refl));
   input = λ i. rw i refl;
   replays = replay-tells family code marks entry ranges;
-  starts = λ i. (someState x entry 0 0, some-start x entry (auditable i) 0 0 (lit< tt) (lit< tt));
+  starts = λ i. starts-in x entry (auditable i);
 }
   where
     x : Script

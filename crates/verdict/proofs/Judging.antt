@@ -1,7 +1,7 @@
 -- What each judgement of the auditor says of the action it judges: the one case split over actions that looks at `judgeOf`. Assumes nothing.
 use Prim.Native.Nat.{ℕ}
 use mathlib.Core.Path.{_≡_, refl, sym, ap, _∙_}
-use mathlib.Core.Bool.{true, false, _&&_}
+use mathlib.Core.Bool.{Bool, true, false, _&&_}
 use mathlib.Core.List.{List}
 use Rattle.families.specs.Family.{pausesMemory}
 use Rattle.isa.specs.declared.addresses.MmioAddress.{MmioAddress}
@@ -34,13 +34,15 @@ poke-addr Part.Low word start addr address KnownAddress.Unset t e = never (cc)
 poke-addr Part.Low word start addr address (KnownAddress.At a) t e = rw e (ap (λ (k : KnownAddress). heldAddr k 0) t)
 
 module _ (family : ℕ) (ranges : List ℕ) where
-  -- the run goes on, as the auditor has it, and writes only where it may
+  -- the run goes on, as the auditor has it, and writes only where it may, and the same whatever ADDR and DATA held at the start
   pub record Fine (action : Action) (k : Knowledge) : Type 0 where
     pub goes : modeAfter action true true ≡ Mode.Running
     pub moves : (at next : ℕ) → ipAfter action at next ≡ next
     pub addr : (start addr : ℕ) → addr ≡ heldAddr (k .addr) start → addrAfter action addr ≡ heldAddr (knownAddr action (k .addr)) start
     pub listed : (start addr word : ℕ) → addr ≡ heldAddr (k .addr) start → AllListed ranges (wroteBy (effectOf action true addr word))
     pub event : (event value : ℕ) → action ≡ Action.Ewait event value → canRelease event value ≡ true
+    pub writes : (start start′ addr addr′ word word′ : ℕ) → addr ≡ heldAddr (k .addr) start → addr′ ≡ heldAddr (k .addr) start′ → (k .«data» ≡ true → word ≡ word′)
+        → wroteBy (effectOf action true addr word) ≡ wroteBy (effectOf action true addr′ word′)
 
   -- the action that a fault blames, and for what
   abbrev pub Blame : Action → Knowledge → Fault → Type 0
@@ -74,36 +76,39 @@ module _ (family : ℕ) (ranges : List ℕ) where
   exits-paused : (k : Knowledge) → (pausesMemory family && k .paused) ≡ true → Blame Action.Exit k Fault.Paused
   exits-paused k e = (refl, e)
 
-  why-poke : (part : Part) (word : ℕ) (k : Knowledge) (target : KnownAddress) → targetOf part word (k .addr) ≡ target → Why (Action.Poke part word) k (judgePoke ranges target (k .«data»))
-  why-poke Part.Whole word k KnownAddress.Unset t = never (cc)
-  why-poke Part.Low word k KnownAddress.Unset t = (word, refl, unset (k .addr) t)
+  why-poke : (part : Part) (word : ℕ) (k : Knowledge) (target : KnownAddress) → targetOf part word (k .addr) ≡ target
+      → (halves : Bool) → k .«data» ≡ halves → Why (Action.Poke part word) k (judgePoke ranges target halves)
+  why-poke Part.Whole word k KnownAddress.Unset t halves d = never (cc)
+  why-poke Part.Low word k KnownAddress.Unset t halves d = (word, refl, unset (k .addr) t)
     where
       unset : (known : KnownAddress) → targetOf Part.Low word known ≡ KnownAddress.Unset → known ≡ KnownAddress.Unset
       unset KnownAddress.Unset t = refl
       unset (KnownAddress.At address) t = never (cc)
-  why-poke part word k (KnownAddress.At address) t =
-      cond-elim (Why (Action.Poke part word) k) (k .«data»)
-      (λ _. cond-elim (Why (Action.Poke part word) k) (listedIn ranges (address .0))
+  why-poke part word k (KnownAddress.At address) t halves d =
+      cond-elim (Why (Action.Poke part word) k) halves
+      (λ h. cond-elim (Why (Action.Poke part word) k) (listedIn ranges (address .0))
       (λ l. record {
         goes = refl;
         moves = λ at next. refl;
         addr = λ start addr e. poke-addr part word start addr address (k .addr) t e ∙ ap (λ (known : KnownAddress). heldAddr known start) (sym t);
         listed = λ start addr data′ e. (rw (poke-addr part word start addr address (k .addr) t e) l, tt);
         event = λ event value q. never (cc);
+        writes = λ start start′ addr addr′ data′ data″ e e′ same.
+            rw (poke-addr part word start addr address (k .addr) t e, poke-addr part word start′ addr′ address (k .addr) t e′, same (d ∙ h)) refl;
       })
       (λ l. outside part word k address t l))
-      (λ h. (part, word, refl, h))
+      (λ h. (part, word, refl, d ∙ h))
 
   pub explain : (action : Action) (k : Knowledge) → Why action k (judgeOf family ranges action k)
   explain (Action.Wait n) k =
-      record { goes = refl; moves = λ at next. refl; addr = λ start addr e. e; listed = λ start addr word e. tt; event = λ event value q. never (cc) }
+      record { goes = refl; moves = λ at next. refl; addr = λ start addr e. e; listed = λ start addr word e. tt; event = λ event value q. never (cc); writes = λ start start′ addr addr′ word word′ e e′ same. refl }
   explain (Action.Ewait event value) k =
       cond-elim (Why (Action.Ewait event value) k) (canRelease event value)
-      (λ c. record { goes = refl; moves = λ at next. refl; addr = λ start addr e. e; listed = λ start addr word e. tt; event = λ event′ value′ q. cc })
+      (λ c. record { goes = refl; moves = λ at next. refl; addr = λ start addr e. e; listed = λ start addr word e. tt; event = λ event′ value′ q. cc; writes = λ start start′ addr addr′ word word′ e e′ same. refl })
       (λ c. unreleased event value k c)
   explain (Action.Flag change flag) k =
-      record { goes = refl; moves = λ at next. refl; addr = λ start addr e. e; listed = λ start addr word e. tt; event = λ event value q. never (cc) }
+      record { goes = refl; moves = λ at next. refl; addr = λ start addr e. e; listed = λ start addr word e. tt; event = λ event value q. never (cc); writes = λ start start′ addr addr′ word word′ e e′ same. refl }
   explain (Action.Load part word) k =
-      record { goes = refl; moves = λ at next. refl; addr = λ start addr e. e; listed = λ start addr word e. tt; event = λ event value q. never (cc) }
-  explain (Action.Poke part word) k = why-poke part word k (targetOf part word (k .addr)) refl
+      record { goes = refl; moves = λ at next. refl; addr = λ start addr e. e; listed = λ start addr word e. tt; event = λ event value q. never (cc); writes = λ start start′ addr addr′ word word′ e e′ same. refl }
+  explain (Action.Poke part word) k = why-poke part word k (targetOf part word (k .addr)) refl _ refl
   explain Action.Exit k = cond-elim (Why Action.Exit k) (pausesMemory family && k .paused) (λ e. exits-paused k e) (λ e. exits k e)

@@ -6,6 +6,7 @@ pub mod Judging
 pub mod Walk
 pub mod Agreement
 pub mod Soundness
+pub mod SameWrites
 pub mod WitnessLog
 pub mod Starts
 pub mod Faults

@@ -4,7 +4,7 @@ use mathlib.Core.Path.{_≡_, refl, sym, _∙_}
 use mathlib.Core.Bool.{true, and-false}
 use mathlib.Core.List.{List, [], _∷_, _++_}
 use native.Mathlib.Omega.{arith}
-use lib.Dec.{leb}
+use lib.Dec.{leb, lit<}
 use lib.ListN.{length, getD, replicate, List·getD-append}
 use borrow.Author.Tests.{leb-true}
 use Rattle.families.specs.Family.{pausesMemory}
@@ -15,7 +15,7 @@ use Rattle.fetch.proofs.Places.{size-small}
 use Rattle.log.specs.Validity.{validLog}
 use Rattle.log.proofs.ValidLaws.{valid-row-start}
 use Rattle.flags.specs.Flags.{overrides1}
-use Rattle.state.specs.Slot.{slotOf}
+use Rattle.state.specs.Slot.{hasSlot, slotOf}
 use Rattle.state.specs.declared.slots.SlotName.{SlotName}
 use Rattle.state.specs.declared.state.State.{State}
 use Rattle.state.proofs.SlotLaws.{has-a}
@@ -119,3 +119,51 @@ module _ (x : Script) (entry : ℕ) (fit : Auditable x entry) (addr word : ℕ) 
     enabled = refl;
     not-paused = and-false (pausesMemory (x .family));
   }
+
+-- ---- the same in slot B
+
+abbrev exchanged : State → State
+exchanged s = record {
+  family = s .family;
+  code = s .code;
+  marks = s .marks;
+  flags = s .flags;
+  enable = s .enable;
+  «override_mode» = s .«override_mode»;
+  entries = s .entries;
+  «entries_high» = s .«entries_high»;
+  a = s .b;
+  b = s .a;
+}
+
+start-exchanged : {family : ℕ} {code marks : List ℕ} {entry : ℕ} {s : State} → Start family code marks entry SlotName.A s → hasSlot family SlotName.B ≡ true
+    → Start family code marks entry SlotName.B (exchanged s)
+start-exchanged start there = let i = start .in-type in record {
+  in-type = record {
+    family = i .family;
+    code-size = i .code-size;
+    code-bytes = i .code-bytes;
+    marks-size = i .marks-size;
+    marks-bytes = i .marks-bytes;
+    values = i .values;
+    enables = i .enables;
+    entries = i .entries;
+    entries-high = i .entries-high;
+    a = i .b;
+    b = i .a;
+  };
+  same-family = start .same-family;
+  slot-there = there;
+  uploaded = start .uploaded;
+  as-audited = start .as-audited;
+  executing = start .executing;
+  at-entry = start .at-entry;
+  other-idle = λ _. start .other-idle there;
+  enabled = start .enabled;
+  not-paused = start .not-paused;
+}
+
+-- every slot of the family has a start
+pub starts-in : (x : Script) (entry : ℕ) → Auditable x entry → (name : SlotName) → hasSlot (x .family) name ≡ true → (s : State) × (Start (x .family) (x .code) (x .marks) entry name s)
+starts-in x entry fit SlotName.A there = (someState x entry 0 0, some-start x entry fit 0 0 (lit< tt) (lit< tt))
+starts-in x entry fit SlotName.B there = (exchanged (someState x entry 0 0), start-exchanged (some-start x entry fit 0 0 (lit< tt) (lit< tt)) there)

@@ -12,7 +12,7 @@ use Rattle.refusals.specs.declared.refusals.Unreadable.{Unreadable}
 use Rattle.log.specs.Validity.{validLog}
 use Rattle.log.specs.declared.place.Place.{Place}
 use Rattle.flags.specs.Flags.{pausedOf, flagsWord0, flagsWord1}
-use Rattle.state.specs.Slot.{slotOf, withSlot}
+use Rattle.state.specs.Slot.{hasSlot, slotOf, withSlot}
 use Rattle.flags.specs.declared.flags.Flags.{Flags}
 use Rattle.state.specs.declared.slots.Mode.{Mode}
 use Rattle.state.specs.declared.slots.Slot.{Slot}
@@ -108,6 +108,10 @@ module _ (family : ℕ) (code marks : List ℕ) (entry : ℕ) (ranges : List ℕ
     -- "from every start, under every log, after any number of steps"
     pub safe : (name : SlotName) (s : State) → Start family code marks entry name s → (clocks known values : List ℕ) → validLog clocks known values ≡ true
         → (n : ℕ) → Safe name place count writes waitClocks clocks known values n (runFor name clocks known values n (begun s))
+    -- what it writes is its own: under one log, equally many steps from any two starts have written the same
+    pub same-writes : (name name′ : SlotName) (s s′ : State) → Start family code marks entry name s → Start family code marks entry name′ s′
+        → (clocks known values : List ℕ) → validLog clocks known values ≡ true
+        → (n : ℕ) → runFor name clocks known values n (begun s) .writes ≡ runFor name′ clocks known values n (begun s′) .writes
     -- each instruction takes a byte of the code RAM at least
     pub bounded : count ≤ codeSize family
     -- "some log brings it to exit"
@@ -207,5 +211,5 @@ module _ (family : ℕ) (code marks : List ℕ) (entry : ℕ) (ranges : List ℕ
     pub input : inputFits family code marks entry ranges ≡ false → verdict ≡ Verdict.Fault Fault.Input (record { 0 = 0 })
     -- "replay answers what the steps give": of a script with a fault too, if replay takes it
     pub replays : scriptFits family code marks entry ≡ true → ReplayTellsAll
-    -- a script that may be audited has starts, so that what is said of every start is said of some
-    pub starts : inputFits family code marks entry ranges ≡ true → (s : State) × (Start family code marks entry SlotName.A s)
+    -- a script that may be audited has starts in each slot of its family, so that what is said of every start is said of some
+    pub starts : inputFits family code marks entry ranges ≡ true → (name : SlotName) → hasSlot family name ≡ true → (s : State) × (Start family code marks entry name s)
