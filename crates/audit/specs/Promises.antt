@@ -11,4 +11,5 @@ pub record Audits (family : ℕ) (code marks : List ℕ) (entry : ℕ) (ranges :
   pub answered : answer ≡ auditOf family code marks entry ranges
   pub numbered : verdictNumber answer ≡ auditNumber family code marks entry ranges
   pub demand3 : Demand3 family code marks entry ranges answer
+  -- of the definition, and so of every answer
   pub starred : Starred

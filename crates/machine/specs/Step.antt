@@ -17,7 +17,7 @@ use Rattle.refusals.specs.declared.refusals.Unsteppable.{Unsteppable}
 use Rattle.turn.specs.declared.turn.Effect.{Effect}
 use Rattle.turn.specs.declared.turn.Turn.{Turn}
 
--- a step without effect on the state and the place
+-- a step that left state and place as they were: refused, or of a slot that does not run
 abbrev pub unmoved : State → Place → Effect → Stepped
 unmoved s p effect = record { state = s; place = p; effect = effect; waited = 0; searched = 0 }
 

@@ -130,6 +130,7 @@ module _ (family : ℕ) (code marks : List ℕ) (entry addr word flags0 flags1 :
     -- the clock law: the log's total is what waits spent, what ewaits passed by and what is left
     pub clocked : leftOf clocks (record { row = 0; used = 0 }) ≡ told .waited + told .searched + told .left
 
+  -- a refusal ends no run
   abbrev pub EndsRight : ReplayAnswer → Type 0
   EndsRight (ReplayAnswer.Ended told) = RunEnds told
   EndsRight (ReplayAnswer.Refused why) = Unit {0}

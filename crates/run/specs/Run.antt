@@ -46,6 +46,7 @@ fetchedBy Effect.Unknown = 1
 fetchedBy Effect.Done = 1
 fetchedBy (Effect.Wrote address word) = 1
 
+-- a run with one more step noted
 abbrev pub noted : Run → Stepped → Run
 noted r t = record {
   state = t .state;

@@ -12,18 +12,18 @@ listedIn [] address = false
 listedIn (first ∷ []) address = false
 listedIn (first ∷ last ∷ ranges) address = within first address last || listedIn ranges address
 
--- each first has its last and is not above it
+-- ranges come in pairs: each first has its last and is not above it
 abbrev pub rangesPaired : List ℕ → Bool
 rangesPaired [] = true
 rangesPaired (first ∷ []) = false
 rangesPaired (first ∷ last ∷ ranges) = leb first last && rangesPaired ranges
 
--- a mark is 0 or 1
+-- marks are plain: each is 0 or 1
 abbrev pub marksPlain : List ℕ → Bool
 marksPlain [] = true
 marksPlain (m ∷ marks) = leb m 1 && marksPlain marks
 
--- a known family, code and marks of its size, plain marks, an entry that its registers can hold
+-- a known family, code and marks of its size, plain marks, an entry that its registers can hold; such an entry may lie past the code RAM
 unfoldable pub scriptFits : ℕ → List ℕ → List ℕ → ℕ → Bool
 scriptFits family code marks entry =
     knownFamily family && (eqb (length code) (codeSize family) && (eqb (length marks) (codeSize family) && (marksPlain marks && leb entry (highestEntry family))))
@@ -36,5 +36,6 @@ maxRanges = 64
 unfoldable pub rangesFit : List ℕ → Bool
 rangesFit ranges = leb (length ranges) (2 * maxRanges) && rangesPaired ranges
 
+-- what is not refused with 9
 abbrev pub inputFits : ℕ → List ℕ → List ℕ → ℕ → List ℕ → Bool
 inputFits family code marks entry ranges = scriptFits family code marks entry && rangesFit ranges

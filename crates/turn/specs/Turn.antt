@@ -90,10 +90,11 @@ performAt enable slot flags action next elapsed = record {
   searched = elapsed .searched;
 }
 
--- an action of n bytes
+-- the same of an action of n bytes
 unfoldable pub performOf : Bool → Slot → Flags → Action → ℕ → Elapsed → Turn
 performOf enable slot flags action n elapsed = performAt enable slot flags action (slot .ip .0 + n) elapsed
 
+-- a turn that takes no time and leaves flags and place alone
 abbrev pub sameTurn : Slot → Flags → Place → Effect → Turn
 sameTurn slot flags p effect = record { slot = slot; flags = flags; place = p; effect = effect; waited = 0; searched = 0 }
 
@@ -106,7 +107,7 @@ unfetchedAt family slot flags p next Unreadable.Unknown =
 unfetchedAt family slot flags p next Unreadable.Short = sameTurn slot flags p (Effect.Stopped Unreadable.Short)
 unfetchedAt family slot flags p next Unreadable.NotUploaded = sameTurn slot flags p (Effect.Stopped Unreadable.NotUploaded)
 
--- an unknown opcode is one byte
+-- the same where the next instruction is the one after it: an unknown opcode is one byte
 abbrev pub unfetched : ℕ → Slot → Flags → Place → Unreadable → Turn
 unfetched family slot flags p why = unfetchedAt family slot flags p (slot .ip .0 + 1) why
 

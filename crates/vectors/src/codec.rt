@@ -1,4 +1,4 @@
-// The calls of families, isa and writer.
+// The calls of families, actions, reader and writer.
 use crate::ram;
 use crate::show;
 use crate::show::Said;

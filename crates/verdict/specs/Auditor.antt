@@ -27,7 +27,7 @@ abbrev pub verdictNumber : Verdict → ℕ
 verdictNumber (Verdict.Pass place count writes clocks) = 0
 verdictNumber (Verdict.Fault fault place) = faultNumber fault
 
--- why there is no instruction, as a fault
+-- why there is no instruction, as a fault; the family has been tested before any fetch
 abbrev pub faultOf : Unreadable → Fault
 faultOf Unreadable.Family = Fault.Input
 faultOf Unreadable.Empty = Fault.PastRam
@@ -75,6 +75,7 @@ abbrev pub loadsBoth : Part → Bool → Bool
 loadsBoth Part.Whole halves = true
 loadsBoth Part.Low halves = halves
 
+-- whether both halves of DATA are set
 abbrev pub knownData : Action → Bool → Bool
 knownData (Action.Wait n) halves = halves
 knownData (Action.Ewait event value) halves = halves
@@ -88,6 +89,7 @@ isSet1 Change.Unset = false
 isSet1 Change.Set1 = true
 isSet1 Change.Set0 = false
 
+-- whether the last touch of flag 16 was set1; it counts only where the family pauses memory
 abbrev pub knownPaused : Action → Bool → Bool
 knownPaused (Action.Wait n) paused = paused
 knownPaused (Action.Ewait event value) paused = paused
@@ -134,7 +136,7 @@ passAt at k = Verdict.Pass (record { 0 = at }) (k .count + 1) (k .writes) (k .cl
 abbrev pub faultAt : Fault → ℕ → Verdict
 faultAt fault at = Verdict.Fault fault (record { 0 = at })
 
--- the verdict from a place on, where at most so many instructions are left
+-- the verdict from a place on, where at most so many instructions are left; with none left the place lies past the code RAM
 unfoldable pub verdictIn : ℕ → ℕ → List ℕ → List ℕ → List ℕ → ℕ → Knowledge → Verdict
 verdictIn zero family code marks ranges at k = faultAt Fault.PastRam at
 verdictIn (suc left) family code marks ranges at k = elim (fetchOf family code marks at) [

@@ -43,7 +43,7 @@ Orderly Effect.Unknown = ⊥
 Orderly Effect.Done = Unit {0}
 Orderly (Effect.Wrote address word) = Unit {0}
 
--- a step that fetched nothing
+-- a step that did not even try to fetch: a stop is a fetch that failed
 abbrev pub Fetchless : Effect → Type 0
 Fetchless (Effect.Refused why) = Unit {0}
 Fetchless Effect.Nothing = Unit {0}
@@ -52,15 +52,16 @@ Fetchless Effect.Unknown = ⊥
 Fetchless Effect.Done = ⊥
 Fetchless (Effect.Wrote address word) = ⊥
 
--- one audited script, and the slot whose run is spoken of
+-- one audited script
 module _ (family : ℕ) (code marks : List ℕ) (entry : ℕ) (ranges : List ℕ) where
+  -- the slot whose run is spoken of
   module _ (name : SlotName) where
     -- the next step fetches at the place
     pub record AtPlace (place : ℕ) (r : Run) : Type 0 where
       pub runs : slotOf (r .state) name .mode ≡ Mode.Running
       pub ip : slotOf (r .state) name .ip .0 ≡ place
 
-    -- exit's step is done, IP on it, slot idle, and memory runs
+    -- exit's step is done, IP on it, slot idle, which no other step of a running slot makes it, and memory runs
     pub record AtExit (place : ℕ) (r : Run) : Type 0 where
       pub idle : slotOf (r .state) name .mode ≡ Mode.Idle
       pub ip : slotOf (r .state) name .ip .0 ≡ place
@@ -73,11 +74,11 @@ module _ (family : ℕ) (code marks : List ℕ) (entry : ℕ) (ranges : List ℕ
       pub used : r .place .used ≡ 0
 
     -- the numbers of the verdict are the run's
-    pub record Exact (place count writes clocks : ℕ) (r : Run) : Type 0 where
+    pub record Exact (place count writes waitClocks : ℕ) (r : Run) : Type 0 where
       pub exit : AtExit place r
       pub counted : r .count ≡ count
       pub wrote : length (r .writes) ≡ writes
-      pub waited : r .waits ≡ clocks
+      pub waited : r .waits ≡ waitClocks
 
     -- what holds of a run of a passed script after n steps
     pub record Safe (place count writes waitClocks : ℕ) (clocks known values : List ℕ) (n : ℕ) (r : Run) : Type 0 where
@@ -201,7 +202,7 @@ module _ (family : ℕ) (code marks : List ℕ) (entry : ℕ) (ranges : List ℕ
   FaultMeans Fault.Input place = (inputFits family code marks entry ranges ≡ false) × (place ≡ 0)
 
   abbrev pub VerdictMeans : Verdict → Type 0
-  VerdictMeans (Verdict.Pass place count writes clocks) = PassMeans (place .0) count writes clocks
+  VerdictMeans (Verdict.Pass place count writes waitClocks) = PassMeans (place .0) count writes waitClocks
   VerdictMeans (Verdict.Fault fault place) = FaultMeans fault (place .0)
 
   -- the claim about the auditor's verdict

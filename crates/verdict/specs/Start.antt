@@ -16,7 +16,7 @@ use Rattle.state.specs.declared.slots.Slot.{Slot}
 use Rattle.state.specs.declared.slots.SlotName.{SlotName}
 use Rattle.state.specs.declared.state.State.{State}
 
--- the numbers in a slot and in a state are of their types: what every value of the code's types is
+-- every number fits its type in the code
 pub record SlotInType (slot : Slot) : Type 0 where
   pub ip : slot .ip .0 < 2 ^ 64
   pub addr : slot .addr .0 < 2 ^ 32
