@@ -61,7 +61,7 @@ module _ (family : ℕ) (code marks : List ℕ) (entry : ℕ) (ranges : List ℕ
       pub runs : slotOf (r .state) name .mode ≡ Mode.Running
       pub ip : slotOf (r .state) name .ip .0 ≡ place
 
-    -- exit's step is done, IP on it, slot idle, which no other step of a running slot makes it, and memory runs
+    -- exit's step is done: IP on it, slot idle, as no step but exit's leaves it, and memory runs
     pub record AtExit (place : ℕ) (r : Run) : Type 0 where
       pub idle : slotOf (r .state) name .mode ≡ Mode.Idle
       pub ip : slotOf (r .state) name .ip .0 ≡ place
