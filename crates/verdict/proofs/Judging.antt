@@ -26,11 +26,15 @@ abbrev pub heldAddr : KnownAddress → ℕ → ℕ
 heldAddr KnownAddress.Unset start = start
 heldAddr (KnownAddress.At address) start = address .0
 
+-- an address that is not known is none
+nowhere : {A : Type 0} {address : MmioAddress} → KnownAddress.Unset ≡ KnownAddress.At address → A
+nowhere e = never (cc)
+
 -- a poke goes where the auditor says
 pub poke-addr : (part : Part) (word start addr : ℕ) (address : MmioAddress) (known : KnownAddress)
     → targetOf part word known ≡ KnownAddress.At address → addr ≡ heldAddr known start → mergeOf part addr word ≡ address .0
 poke-addr Part.Whole word start addr address known t e = ap (λ (k : KnownAddress). heldAddr k 0) t
-poke-addr Part.Low word start addr address KnownAddress.Unset t e = never (cc)
+poke-addr Part.Low word start addr address KnownAddress.Unset t e = nowhere t
 poke-addr Part.Low word start addr address (KnownAddress.At a) t e = rw e (ap (λ (k : KnownAddress). heldAddr k 0) t)
 
 module _ (family : ℕ) (ranges : List ℕ) where
