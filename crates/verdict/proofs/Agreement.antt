@@ -1,6 +1,6 @@
 -- A run that is not held up agrees with what the auditor knows at the same place, and one action judged fine keeps that. Assumes nothing.
 use Prim.Native.Nat.{ℕ, _+_, _/_}
-use mathlib.Core.Path.{_≡_, refl, _∙_}
+use mathlib.Core.Path.{_≡_, refl, ap, _∙_}
 use mathlib.Core.Logic.{_⊎_, inl, inr}
 use mathlib.Core.Bool.{Bool, true, false, cond, _&&_}
 use mathlib.Core.List.{List, [], _∷_, _++_, append-nil}
@@ -29,6 +29,7 @@ use Rattle.run.specs.Run.{Run, Write, wroteBy, noted}
 use Rattle.verdict.specs.declared.verdicts.Knowledge.{Knowledge}
 use Rattle.script.proofs.Scripts.{Script, Log, Formed, Reads}
 use Rattle.verdict.proofs.FlagLaws.{flag-law}
+use Rattle.run.proofs.Runs.{next-promises}
 use Rattle.run.proofs.Settled.{action-fetched}
 use Rattle.verdict.proofs.Steady.{stepFrom, next, SteadyRun, next-performs, next-steady}
 use Rattle.verdict.proofs.Lapse.{Lapse, lapse}
@@ -81,6 +82,7 @@ module _ (x : Script) (name : SlotName) (log : Log) where
   -- addr and word: what ADDR and DATA held at the start
   pub record Agree (addr word p : ℕ) (k : Knowledge) (r : Run) : Type 0 where
     pub steady : SteadyRun x name log r
+    pub enabled : r .state .enable ≡ true
     pub going : slotOf (r .state) name .mode ≡ Mode.Running
     pub ip : slotOf (r .state) name .ip .0 ≡ p
     pub held : slotOf (r .state) name .addr .0 ≡ heldAddr (k .addr) addr
@@ -117,7 +119,9 @@ module _ (x : Script) (name : SlotName) (log : Log) where
     lapsed = lapse (log .clocks) (log .known) (log .values) action (r .place) (g .steady .valid-place)
 
     pub performs : stepFrom name log r ≡ afterTurn (r .state) name (turn elapsed)
-    performs = next-performs x name log r (g .steady) e (g .going) (g .ip)
+    performs =
+        next-performs x name log r (g .steady) e (g .going) (g .ip)
+        ∙ ap (λ (enable : Bool). afterTurn (r .state) name (performOf enable slot (r .state .flags) action n elapsed)) (g .enabled)
 
     pub next-place : next name log r .place ≡ elapsed .place
     unfolding performOf
@@ -126,12 +130,16 @@ module _ (x : Script) (name : SlotName) (log : Log) where
     pub after-steady : SteadyRun x name log (after elapsed)
     after-steady = rw performs at (next-steady x name log r (g .steady))
 
+    after-enabled : after elapsed .state .enable ≡ true
+    after-enabled = rw performs at (next-promises name (log .clocks) (log .known) (log .values) r .keeps .enable ∙ g .enabled)
+
     -- whatever the log says, an action judged fine leads to agreement or is held up
     module _ (f : Fine (x .family) (x .ranges) action k) where
-      done-agrees : (t : Elapsed) → Lapse (log .clocks) action t → SteadyRun x name log (after t) → t .finished ≡ true → Agree addr word (p + n) (knowNext action k) (after t)
+      done-agrees : (t : Elapsed) → Lapse (log .clocks) action t → SteadyRun x name log (after t) → after t .state .enable ≡ true → t .finished ≡ true → Agree addr word (p + n) (knowNext action k) (after t)
       unfolding performOf
-      done-agrees t q steady d = record {
+      done-agrees t q steady on d = record {
         steady = steady;
+        enabled = on;
         going = rw (slot-back, d) (f .goes);
         ip = rw slot-back (f .moves (slot .ip .0) (slot .ip .0 + n) ∙ omega (arith, g .ip));
         held = rw slot-back (f .addr addr (slot .addr .0) (g .held));
@@ -154,7 +162,7 @@ module _ (x : Script) (name : SlotName) (log : Log) where
       }
 
       pub goes-on : elapsed .finished ≡ true → Agree addr word (p + n) (knowNext action k) (next name log r)
-      goes-on d = rw performs (done-agrees elapsed lapsed after-steady d)
+      goes-on d = rw performs (done-agrees elapsed lapsed after-steady after-enabled d)
 
       pub held-up : elapsed .finished ≡ false → Held (next name log r)
       held-up d = rw performs (cut-holds elapsed lapsed after-steady d)

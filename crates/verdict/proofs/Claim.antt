@@ -19,6 +19,7 @@ use Rattle.run.proofs.Runs.{run-snoc}
 use Rattle.verdict.proofs.Walk.{Walk, Ends, at-refused, at-bad, at-exit, Walked, audit-walks}
 use Rattle.verdict.proofs.Soundness.{earlier, exit-step, sound}
 use Rattle.verdict.proofs.Cases.{never}
+use Rattle.verdict.proofs.Endings.{ends-well}
 use Rattle.verdict.proofs.SameWrites.{same-writes}
 use Rattle.verdict.proofs.WitnessLog.{actions, witnessLog, witness-valid, witness-masks, bounded, bounded-start, reach}
 use Rattle.verdict.proofs.Starts.{begun-agrees, starts-in}
@@ -53,6 +54,8 @@ module _ (x : Script) (entry : ℕ) (fit : Auditable x entry) (fits-so : scriptF
               (exit-step x entry name log e unpaused (reach x name w (begun-agrees x entry (fit .fits) name s start log valid)) .exact .exit),
         );
     replays = replay-tells (x .family) (x .code) (x .marks) entry (x .ranges) fits-so;
+    ends = λ addr word flags0 flags1 enable clocks known values valid.
+        ends-well x entry (fit .fits) e w addr word flags0 flags1 enable (record { clocks = clocks; known = known; values = values }) valid;
   }
 
   walked : VerdictMeans (x .family) (x .code) (x .marks) entry (x .ranges) (verdictIn (codeSize (x .family)) (x .family) (x .code) (x .marks) (x .ranges) entry knowNothing)

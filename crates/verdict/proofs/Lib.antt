@@ -7,6 +7,7 @@ pub mod Walk
 pub mod Agreement
 pub mod Soundness
 pub mod SameWrites
+pub mod Endings
 pub mod WitnessLog
 pub mod Starts
 pub mod Faults

@@ -46,7 +46,6 @@ module _ (x : Script) (entry : ℕ) (fit : Fits (x .family) (x .code) (x .marks)
     slot-there = start .slot-there;
     valid-log = valid;
     same-family = start .same-family;
-    enabled = start .enabled;
     fetches = start-fetches (x .family) (x .code) (x .marks) entry fit name s start;
     valid-place = valid-row-start (log .clocks) (log .known) (log .values) valid 0 (omega arith);
   }
@@ -54,6 +53,7 @@ module _ (x : Script) (entry : ℕ) (fit : Fits (x .family) (x .code) (x .marks)
   pub begun-agrees : Agree x name log (slotOf s name .addr .0) (slotOf s name .«data») entry knowNothing (begun s)
   begun-agrees = record {
     steady = begun-steady;
+    enabled = start .enabled;
     going = start .executing;
     ip = start .at-entry;
     held = refl;

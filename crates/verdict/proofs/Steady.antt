@@ -39,7 +39,6 @@ pub record SteadyRun (x : Script) (name : SlotName) (log : Log) (r : Run) : Type
   pub slot-there : hasSlot (x .family) name ≡ true
   pub valid-log : validLog (log .clocks) (log .known) (log .values) ≡ true
   pub same-family : r .state .family ≡ x .family
-  pub enabled : r .state .enable ≡ true
   pub fetches : (at : ℕ) → fetchOf (x .family) (r .state .code) (r .state .marks) at ≡ fetchAt x at
   pub valid-place : validPlace (log .clocks) (r .place) ≡ true
 
@@ -51,10 +50,10 @@ module _ (x : Script) (name : SlotName) (log : Log) where
     -- a slot that runs takes a turn
     next-turn : slotOf (r .state) name .mode ≡ Mode.Running
         → stepFrom name log r
-        ≡ afterTurn (r .state) name (turnOf (x .family) true (slotOf (r .state) name) (r .state .flags) (log .clocks) (log .known) (log .values) (r .place) (fetchAt x (slotOf (r .state) name .ip .0)))
+        ≡ afterTurn (r .state) name (turnOf (x .family) (r .state .enable) (slotOf (r .state) name) (r .state .flags) (log .clocks) (log .known) (log .values) (r .place) (fetchAt x (slotOf (r .state) name .ip .0)))
     next-turn m =
         step-turns (r .state) name (log .clocks) (log .known) (log .values) (r .place) known-here (k .valid-log) (k .valid-place) (rw (k .same-family) (k .slot-there)) m
-        ∙ simp (k .same-family, k .enabled, k .fetches (slotOf (r .state) name .ip .0))
+        ∙ simp (k .same-family, k .fetches (slotOf (r .state) name .ip .0))
 
     pub next-refused : {p : ℕ} (why : Unreadable) → slotOf (r .state) name .mode ≡ Mode.Running → slotOf (r .state) name .ip .0 ≡ p → fetchAt x p ≡ Decoded.Refused why
         → stepFrom name log r ≡ afterTurn (r .state) name (unfetched (x .family) (slotOf (r .state) name) (r .state .flags) (r .place) why)
@@ -62,7 +61,7 @@ module _ (x : Script) (name : SlotName) (log : Log) where
 
     pub next-performs : {p n : ℕ} {action : Action} → Reads x p action n → slotOf (r .state) name .mode ≡ Mode.Running → slotOf (r .state) name .ip .0 ≡ p
         → stepFrom name log r
-        ≡ afterTurn (r .state) name (performOf true (slotOf (r .state) name) (r .state .flags) action n (elapsedOf action (log .clocks) (log .known) (log .values) (r .place)))
+        ≡ afterTurn (r .state) name (performOf (r .state .enable) (slotOf (r .state) name) (r .state .flags) action n (elapsedOf action (log .clocks) (log .known) (log .values) (r .place)))
     next-performs e m at = next-turn m ∙ simp (at, e .found, e .acts)
 
     -- a slot that does not run is left alone
@@ -81,7 +80,6 @@ module _ (x : Script) (name : SlotName) (log : Log) where
           slot-there = k .slot-there;
           valid-log = k .valid-log;
           same-family = law .keeps .family ∙ k .same-family;
-          enabled = law .keeps .enable ∙ k .enabled;
           fetches = λ at. rw (law .keeps .code, law .keeps .marks) (k .fetches at);
           valid-place = law .passes .stays (k .valid-log) (k .valid-place);
         }

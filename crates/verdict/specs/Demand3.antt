@@ -2,7 +2,7 @@
 use Prim.Native.Nat.{ℕ, suc, _+_, _≤_}
 use mathlib.Core.Path.{_≡_}
 use mathlib.Core.Logic.{_⊎_}
-use mathlib.Core.Bool.{true, false}
+use mathlib.Core.Bool.{Bool, true, false}
 use mathlib.Core.List.{List, [], _∷_}
 use lib.ListN.{length}
 use Rattle.families.specs.Family.{codeSize}
@@ -27,7 +27,9 @@ use Rattle.run.specs.Replay.{maxEntries, toldOf, fullRun, replayOf, replayedRun
 use Rattle.verdict.specs.Start.{Start, MasksInType}
 use Rattle.refusals.specs.declared.refusals.Fault.{Fault}
 use Rattle.verdict.specs.declared.verdicts.Verdict.{Verdict}
+use Rattle.run.specs.declared.answers.Ending.{Ending}
 use Rattle.run.specs.declared.answers.ReplayAnswer.{ReplayAnswer}
+use Rattle.run.specs.declared.answers.Replayed.{Replayed}
 
 -- every address written is listed
 abbrev pub AllListed : List ℕ → List Write → Type 0
@@ -104,6 +106,14 @@ module _ (family : ℕ) (code marks : List ℕ) (entry : ℕ) (ranges : List ℕ
   ReplayTellsAll = (name : SlotName) (s : State) → Start family code marks entry name s → (clocks known values : List ℕ) → validLog clocks known values ≡ true
       → (lent : ℕ) → maxEntries ≤ lent → ReplayTells name s clocks known values lent
 
+  -- the endings of runs that neither hung nor stopped
+  abbrev pub EndsWell : Ending → Type 0
+  EndsWell Ending.Exit = Unit {0}
+  EndsWell Ending.Log = Unit {0}
+  EndsWell Ending.Poke = Unit {0}
+  EndsWell Ending.Hang = ⊥
+  EndsWell Ending.Stop = ⊥
+
   -- what a pass means
   pub record PassMeans (place count writes waitClocks : ℕ) : Type 0 where
     -- "from every start, under every log, after any number of steps"
@@ -121,6 +131,9 @@ module _ (family : ℕ) (code marks : List ℕ) (entry : ℕ) (ranges : List ℕ
         × (AtExit name place (runFor name clocks known values n (begun s)))
     -- "replay answers what the steps give"
     pub replays : ReplayTellsAll
+    -- a job may start it with HWSQ_ENABLE 0 or memory paused, which no start is: replay ends at exit, with the log or at a poke all the same
+    pub ends : (addr word flags0 flags1 : ℕ) (enable : Bool) (clocks known values : List ℕ) → validLog clocks known values ≡ true
+        → EndsWell (toldOf SlotName.A clocks (replayedRun family code marks entry addr word flags0 flags1 enable clocks known values) .ending)
 
   -- ---- what a fault means: a run that shows it
 
