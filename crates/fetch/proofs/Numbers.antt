@@ -1,5 +1,5 @@
 -- The number of a fetch is that of the first of its tests which fails. Assumes nothing.
-use Prim.Native.Nat.{ℕ, _+_, _≤_, _<_}
+use Prim.Native.Nat.{ℕ, _+_, _<_}
 use mathlib.Core.Path.{_≡_, refl, ap, sym, _∙_}
 use mathlib.Core.Bool.{Bool, true, false, cond, not}
 use mathlib.Core.List.{List}
@@ -14,7 +14,6 @@ use Rattle.isa.specs.Opcode.{opcodeAt, sizeOf, isUnknown}
 use Rattle.isa.specs.Reader.{readAs, decodeOf, decodedNumber}
 use Rattle.isa.specs.declared.opcodes.Opcode.{Opcode}
 use Rattle.isa.specs.declared.reader.Decoded.{Decoded}
-use Rattle.refusals.specs.declared.refusals.Unreadable.{Unreadable}
 use Rattle.isa.proofs.Reading.{read-number, long-known, short, whole}
 use Rattle.isa.proofs.Tests.{cond-elim, by-no-family}
 use Rattle.fetch.specs.Fetch.{codeRam, allMarked, checkMarks, fetchOf, fetchRefusal}

@@ -1,6 +1,5 @@
 -- The script that a job starts, and its run (01, "A job, and one report whole" and "Demand 3's words").
 use Prim.Native.Nat.{ℕ}
-use mathlib.Core.Bool.{cond}
 use mathlib.Core.List.{List}
 use Rattle.fetch.specs.Fetch.{codeRam}
 use Rattle.flags.specs.Flags.{flagsWord0, flagsWord1, flagsFromWords}

@@ -36,8 +36,7 @@ use Rattle.verdict.specs.declared.verdicts.Knowledge.{Knowledge}
 use Rattle.verdict.proofs.Cases.{never}
 use Rattle.script.proofs.Scripts.{Script, Log, Auditable, fetchAt, Reads}
 use Rattle.run.proofs.Runs.{run-suc, run-snoc, run-add}
-use Rattle.run.proofs.Settled.{settled-run}
-use Rattle.verdict.proofs.Steady.{stepFrom, next, steps, run-steady, SteadyRun, next-refused, next-performs, next-nothing, next-settled, next-steady}
+use Rattle.verdict.proofs.Steady.{stepFrom, next, steps, run-steady, SteadyRun, next-refused, next-mode, next-nothing, run-rests, next-steady}
 use Rattle.verdict.proofs.Judging.{heldAddr, poke-addr, Blame}
 use Rattle.verdict.proofs.Walk.{Walk}
 use Rattle.verdict.proofs.Agreement.{Agree, performs}
@@ -59,18 +58,17 @@ ewait-unfinished known values event value rows (Released.End n) o c = refl
 module _ (x : Script) (name : SlotName) (log : Log) {p n event value : ℕ} (e : Reads x p (Action.Ewait event value) n) (c : canRelease event value ≡ false)
     (r : Run) (k : SteadyRun x name log r) (g : slotOf (r .state) name .mode ≡ Mode.Running) (at : slotOf (r .state) name .ip .0 ≡ p) where
   stuck-waits : slotOf (next name log r .state) name .mode ≡ Mode.Waiting
-  unfolding performOf
   stuck-waits =
       let t = elapsedOf (Action.Ewait event value) (log .clocks) (log .known) (log .values) (r .place) in
       let cut : t .finished ≡ false
       = ewait-unfinished (log .known) (log .values) event value (length (log .clocks)) (ewaitOf (log .clocks) (log .known) (log .values) (r .place) event value)
       (ewait-on-reading (log .clocks) (log .known) (log .values) event value (r .place)) c in
-      rw (next-performs x name log r k e g at, slot-back, cut) refl
+      next-mode x name log r k e g at ∙ rw cut refl
 
   stuck : (m : ℕ) → Fetchless (stepFrom name log (steps name log m (next name log r)) .effect)
   stuck m =
       let k′ = next-steady x name log r k in
-      rw (settled-run name (log .clocks) (log .known) (log .values) m (next name log r) (next-settled x name log (next name log r) k′ (ap isRunning stuck-waits)))
+      rw (run-rests x name log (next name log r) k′ (ap isRunning stuck-waits) m)
       (rw (next-nothing x name log (next name log r) k′ (ap isRunning stuck-waits)) tt)
 
 -- ---- the step of a run that agrees with the auditor

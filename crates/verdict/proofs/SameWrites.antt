@@ -2,25 +2,22 @@
 use Prim.Native.Nat.{ℕ, zero, suc, _+_}
 use mathlib.Core.Path.{_≡_, refl, sym, ap, _∙_}
 use mathlib.Core.Bool.{Bool, true, false, _&&_}
-use mathlib.Core.List.{List, _++_}
+use mathlib.Core.List.{List}
 use Rattle.families.specs.Family.{pausesMemory}
 use Rattle.actions.specs.Action.{mergeOf}
 use Rattle.actions.specs.declared.actions.Action.{Action}
 use Rattle.actions.specs.declared.actions.Part.{Part}
-use Rattle.log.specs.declared.place.Place.{Place}
 use Rattle.state.specs.Slot.{isRunning, slotOf}
 use Rattle.state.specs.declared.slots.SlotName.{SlotName}
 use Rattle.state.proofs.SlotLaws.{slot-back}
 use Rattle.time.specs.Time.{elapsedOf}
 use Rattle.time.specs.declared.elapsed.Elapsed.{Elapsed}
 use Rattle.turn.specs.Turn.{dataAfter, effectOf, performOf}
-use Rattle.machine.specs.declared.steps.Stepped.{Stepped}
 use Rattle.run.specs.Run.{Run, Write, wroteBy, runFor}
-use Rattle.run.proofs.Settled.{settled-run}
 use Rattle.script.proofs.Scripts.{Script, Log, Reads}
 use Rattle.verdict.specs.Auditor.{loadsBoth, knownData, knowNext}
 use Rattle.verdict.specs.declared.verdicts.Knowledge.{Knowledge}
-use Rattle.verdict.proofs.Steady.{stepFrom, next, steps, SteadyRun, next-settled}
+use Rattle.verdict.proofs.Steady.{next, steps, SteadyRun, run-rests}
 use Rattle.verdict.proofs.Judging.{Fine}
 use Rattle.verdict.proofs.Walk.{Walk, here, more}
 use Rattle.verdict.proofs.Agreement.{Agree, performs, next-place, goes-on, held-up}
@@ -75,7 +72,7 @@ module _ (x : Script) (log : Log) (name name′ : SlotName) where
   rest : (m : ℕ) (r r′ : Run) → SteadyRun x name log r → SteadyRun x name′ log r′ → isRunning (slotOf (r .state) name .mode) ≡ false → isRunning (slotOf (r′ .state) name′ .mode) ≡ false
       → r .writes ≡ r′ .writes → steps name log m r .writes ≡ steps name′ log m r′ .writes
   rest m r r′ k k′ h h′ e =
-      rw (settled-run name (log .clocks) (log .known) (log .values) m r (next-settled x name log r k h), settled-run name′ (log .clocks) (log .known) (log .values) m r′ (next-settled x name′ log r′ k′ h′)) e
+      rw (run-rests x name log r k h m, run-rests x name′ log r′ k′ h′ m) e
 
   module _ (entry : ℕ) {q m : ℕ} {l : Knowledge} (e : Reads x q Action.Exit m) (unpaused : (pausesMemory (x .family) && l .paused) ≡ false) where
     pub same-writes : {addr word addr′ word′ p : ℕ} {k : Knowledge} {r r′ : Run} → Walk x p k q l → Agree x name log addr word p k r → Agree x name′ log addr′ word′ p k r′ → Same k r r′

@@ -17,8 +17,7 @@ use Rattle.run.specs.Run.{Run, runFor}
 use Rattle.verdict.specs.declared.verdicts.Knowledge.{Knowledge}
 use Rattle.verdict.proofs.Cases.{never}
 use Rattle.script.proofs.Scripts.{Script, Log, Reads}
-use Rattle.run.proofs.Settled.{settled-run}
-use Rattle.verdict.proofs.Steady.{next, steps, SteadyRun, next-nothing, next-settled}
+use Rattle.verdict.proofs.Steady.{next, steps, SteadyRun, next-nothing, run-rests}
 use Rattle.verdict.proofs.Walk.{Walk, here, more}
 use Rattle.verdict.proofs.Agreement.{Agree, Held, performs, after-steady, one-step}
 
@@ -95,7 +94,7 @@ module _ (x : Script) (entry : ℕ) (name : SlotName) (log : Log) where
     sound here g zero = earlier (omega arith) (going-safe e g)
     sound {p = p} {r = r} here g (suc n) =
         let s = exit-step g in
-        rw (settled-run name (log .clocks) (log .known) (log .values) n (next name log r) (next-settled x name log (next name log r) (s .steady) (ap isRunning (s .exact .exit .idle))))
+        rw (run-rests x name log (next name log r) (s .steady) (ap isRunning (s .exact .exit .idle)) n)
         (exited-safe (p + suc n) (next name log r) s)
     sound (more action t f j w) g zero = earlier (omega arith) (going-safe f g)
     sound {addr} {word} {p} {k} {r} (more action t f j w) g (suc n) = by (one-step x name log g f j) (λ h. sound w h n)
@@ -105,5 +104,5 @@ module _ (x : Script) (entry : ℕ) (name : SlotName) (log : Log) where
             → SafeAt q (l .count + 1) (l .writes) (l .clocks) (p + suc n) (steps name log n (next name log r))
         by (inl h) later = earlier (omega (arith, f .some)) (later h)
         by (inr h) later =
-            rw (settled-run name (log .clocks) (log .known) (log .values) n (next name log r) (next-settled x name log (next name log r) (h .steady) (ap isRunning (h .waiting))))
+            rw (run-rests x name log (next name log r) (h .steady) (ap isRunning (h .waiting)) n)
             (held-safe (p + suc n) (next name log r) h)

@@ -5,7 +5,7 @@ use mathlib.Core.Bool.{true, and-false}
 use mathlib.Core.List.{List, [], _∷_, _++_}
 use native.Mathlib.Omega.{arith}
 use lib.Dec.{leb, lit<}
-use lib.ListN.{length, getD, replicate, List·getD-append}
+use lib.ListN.{length, getD, replicate}
 use borrow.Author.Tests.{leb-true}
 use Rattle.families.specs.Family.{pausesMemory}
 use Rattle.isa.proofs.Tests.{both-left, both-right, bounds}
@@ -13,7 +13,6 @@ use Rattle.fetch.specs.Fetch.{fetchOf}
 use Rattle.fetch.proofs.FetchLaws.{same-fetch}
 use Rattle.fetch.proofs.Places.{size-small}
 use Rattle.log.specs.Validity.{validLog}
-use Rattle.log.proofs.ValidLaws.{valid-row-start}
 use Rattle.flags.specs.Flags.{overrides1}
 use Rattle.state.specs.Slot.{hasSlot, slotOf}
 use Rattle.state.specs.declared.slots.SlotName.{SlotName}
@@ -26,7 +25,7 @@ use Rattle.run.specs.Run.{begun}
 use Rattle.verdict.specs.Start.{InType, Start}
 use Rattle.script.proofs.Scripts.{Script, Log, Fits, Auditable}
 use Rattle.run.proofs.Filled.{filled-size, filled-marks, filled-code}
-use Rattle.verdict.proofs.Steady.{SteadyRun}
+use Rattle.verdict.proofs.Steady.{SteadyRun, steady-from}
 use Rattle.verdict.proofs.Agreement.{Agree}
 
 -- ---- what is fetched from a start
@@ -41,14 +40,7 @@ module _ (family : ℕ) (code marks : List ℕ) (entry : ℕ) (fit : Fits family
 module _ (x : Script) (entry : ℕ) (fit : Fits (x .family) (x .code) (x .marks) entry) (name : SlotName) (s : State) (start : Start (x .family) (x .code) (x .marks) entry name s)
     (log : Log) (valid : validLog (log .clocks) (log .known) (log .values) ≡ true) where
   pub begun-steady : SteadyRun x name log (begun s)
-  begun-steady = record {
-    known-family = fit .known;
-    slot-there = start .slot-there;
-    valid-log = valid;
-    same-family = start .same-family;
-    fetches = start-fetches (x .family) (x .code) (x .marks) entry fit name s start;
-    valid-place = valid-row-start (log .clocks) (log .known) (log .values) valid 0 (omega arith);
-  }
+  begun-steady = steady-from x name log s (fit .known) (start .slot-there) valid (start .same-family) (start-fetches (x .family) (x .code) (x .marks) entry fit name s start)
 
   pub begun-agrees : Agree x name log (slotOf s name .addr .0) (slotOf s name .«data») entry knowNothing (begun s)
   begun-agrees = record {

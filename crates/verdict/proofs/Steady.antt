@@ -1,26 +1,31 @@
 -- A run of a script under a log: what no step changes, and what a step of a slot is that runs or does not. Assumes nothing.
 use Prim.Native.Nat.{ℕ}
-use mathlib.Core.Path.{_≡_, ap, _∙_}
+use mathlib.Core.Path.{_≡_, refl, ap, _∙_}
 use mathlib.Core.Bool.{true, false}
+use native.Mathlib.Omega.{arith}
 use Rattle.families.specs.Family.{knownFamily}
 use Rattle.isa.specs.declared.reader.Decoded.{Decoded}
 use Rattle.refusals.specs.declared.refusals.Unreadable.{Unreadable}
 use Rattle.fetch.specs.Fetch.{fetchOf}
 use Rattle.log.specs.Validity.{validLog, validPlace}
+use Rattle.log.proofs.ValidLaws.{valid-row-start}
 use Rattle.state.specs.Slot.{hasSlot, isRunning, slotOf}
 use Rattle.machine.specs.Step.{unmoved, afterTurn}
 use Rattle.time.specs.Time.{elapsedOf}
-use Rattle.turn.specs.Turn.{performOf, unfetched, turnOf}
+use Rattle.time.specs.declared.elapsed.Elapsed.{Elapsed}
+use Rattle.turn.specs.Turn.{modeAfter, performOf, unfetched, turnOf}
 use Rattle.actions.specs.declared.actions.Action.{Action}
 use Rattle.state.specs.declared.slots.Mode.{Mode}
 use Rattle.state.specs.declared.slots.SlotName.{SlotName}
+use Rattle.state.specs.declared.state.State.{State}
 use Rattle.machine.specs.declared.steps.Stepped.{Stepped}
 use Rattle.turn.specs.declared.turn.Effect.{Effect}
+use Rattle.state.proofs.SlotLaws.{slot-back}
 use Rattle.machine.proofs.StepLaws.{step-turns, step-rests}
-use Rattle.run.specs.Run.{Run, fetchedBy, noted, nextStep, runFor}
+use Rattle.run.specs.Run.{Run, begun, fetchedBy, noted, nextStep, runFor}
 use Rattle.run.proofs.Runs.{next-promises, run-elim}
 use Rattle.script.proofs.Scripts.{Script, Log, fetchAt, Reads}
-use Rattle.run.proofs.Settled.{Settled}
+use Rattle.run.proofs.Settled.{Settled, settled-run}
 
 module _ (name : SlotName) (log : Log) where
   abbrev pub stepFrom : Run → Stepped
@@ -43,6 +48,18 @@ pub record SteadyRun (x : Script) (name : SlotName) (log : Log) (r : Run) : Type
   pub valid-place : validPlace (log .clocks) (r .place) ≡ true
 
 module _ (x : Script) (name : SlotName) (log : Log) where
+  -- a run that begins in a state of the family whose fetches are the script's
+  pub steady-from : (s : State) → knownFamily (x .family) ≡ true → hasSlot (x .family) name ≡ true → validLog (log .clocks) (log .known) (log .values) ≡ true → s .family ≡ x .family
+      → ((at : ℕ) → fetchOf (x .family) (s .code) (s .marks) at ≡ fetchAt x at) → SteadyRun x name log (begun s)
+  steady-from s known there valid same fetches = record {
+    known-family = known;
+    slot-there = there;
+    valid-log = valid;
+    same-family = same;
+    fetches = fetches;
+    valid-place = valid-row-start (log .clocks) (log .known) (log .values) valid 0 (omega arith);
+  }
+
   module _ (r : Run) (k : SteadyRun x name log r) where
     known-here : knownFamily (r .state .family) ≡ true
     known-here = rw (k .same-family) (k .known-family)
@@ -64,12 +81,22 @@ module _ (x : Script) (name : SlotName) (log : Log) where
         ≡ afterTurn (r .state) name (performOf (r .state .enable) (slotOf (r .state) name) (r .state .flags) action n (elapsedOf action (log .clocks) (log .known) (log .values) (r .place)))
     next-performs e m at = next-turn m ∙ simp (at, e .found, e .acts)
 
+    -- the mode after it
+    pub next-mode : {p n : ℕ} {action : Action} → Reads x p action n → slotOf (r .state) name .mode ≡ Mode.Running → slotOf (r .state) name .ip .0 ≡ p
+        → slotOf (next name log r .state) name .mode ≡ modeAfter action (r .state .enable) (elapsedOf action (log .clocks) (log .known) (log .values) (r .place) .finished)
+    unfolding performOf
+    next-mode e m at = rw (next-performs e m at, slot-back) refl
+
     -- a slot that does not run is left alone
     pub next-nothing : isRunning (slotOf (r .state) name .mode) ≡ false → stepFrom name log r ≡ unmoved (r .state) (r .place) Effect.Nothing
     next-nothing m = step-rests (r .state) name (log .clocks) (log .known) (log .values) (r .place) known-here (k .valid-log) (k .valid-place) m
 
-    pub next-settled : isRunning (slotOf (r .state) name .mode) ≡ false → Settled name (log .clocks) (log .known) (log .values) r
+    next-settled : isRunning (slotOf (r .state) name .mode) ≡ false → Settled name (log .clocks) (log .known) (log .values) r
     next-settled m = ap (λ (t : Stepped). fetchedBy (t .effect)) (next-nothing m)
+
+    -- by any number of steps
+    pub run-rests : isRunning (slotOf (r .state) name .mode) ≡ false → (m : ℕ) → steps name log m r ≡ r
+    run-rests h m = settled-run name (log .clocks) (log .known) (log .values) m r (next-settled h)
 
     -- every step keeps it
     pub next-steady : SteadyRun x name log (next name log r)

@@ -54,6 +54,14 @@ Fetchless Effect.Unknown = ⊥
 Fetchless Effect.Done = ⊥
 Fetchless (Effect.Wrote address word) = ⊥
 
+-- the endings of runs that neither hung nor stopped
+abbrev pub EndsWell : Ending → Type 0
+EndsWell Ending.Exit = Unit {0}
+EndsWell Ending.Log = Unit {0}
+EndsWell Ending.Poke = Unit {0}
+EndsWell Ending.Hang = ⊥
+EndsWell Ending.Stop = ⊥
+
 -- one audited script
 module _ (family : ℕ) (code marks : List ℕ) (entry : ℕ) (ranges : List ℕ) where
   -- the slot whose run is spoken of
@@ -105,14 +113,6 @@ module _ (family : ℕ) (code marks : List ℕ) (entry : ℕ) (ranges : List ℕ
   abbrev pub ReplayTellsAll : Type 0
   ReplayTellsAll = (name : SlotName) (s : State) → Start family code marks entry name s → (clocks known values : List ℕ) → validLog clocks known values ≡ true
       → (lent : ℕ) → maxEntries ≤ lent → ReplayTells name s clocks known values lent
-
-  -- the endings of runs that neither hung nor stopped
-  abbrev pub EndsWell : Ending → Type 0
-  EndsWell Ending.Exit = Unit {0}
-  EndsWell Ending.Log = Unit {0}
-  EndsWell Ending.Poke = Unit {0}
-  EndsWell Ending.Hang = ⊥
-  EndsWell Ending.Stop = ⊥
 
   -- what a pass means
   pub record PassMeans (place count writes waitClocks : ℕ) : Type 0 where
