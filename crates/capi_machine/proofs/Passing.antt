@@ -1,8 +1,8 @@
 -- From what a call promises of its answer to what the call with a C name promises of its reply. Assumes nothing.
 use Prim.Native.Nat.{ℕ}
 use mathlib.Core.Path.{_≡_, refl, ap, subst, _∙_}
-use mathlib.Core.List.{List}
 use Rattle.isa.specs.declared.addresses.MmioAddress.{MmioAddress}
+use Rattle.log.specs.Log.{Log}
 use Rattle.log.specs.declared.place.Place.{Place}
 use Rattle.state.specs.declared.slots.Mode.{Mode}
 use Rattle.state.specs.declared.slots.SlotName.{SlotName}
@@ -56,9 +56,13 @@ module _ {image : StateImage} {s : State} (e : s ≡ stateFrom image) where
       let q : HostReads (stateFrom image) at answer = rw e at p in
       record { answered = told ∙ ap readReply (q .answered); reads = subst (HostReads (stateFrom image) at) (q .answered) q }
 
-  pub step-passed : {slot : ℕ} {name : SlotName} {clocks known values : List ℕ} {row used : ℕ} {answer : Stepped} {reply : StepReply} → name ≡ slotNamed slot
-      → Steps s name clocks known values (record { row = row; used = used }) answer → reply ≡ stepReply answer → HwsqStep image slot clocks known values row used reply
-  step-passed {slot} {name} {clocks} {known} {values} {row} {used} {answer} n p told =
+  pub step-passed : {slot : ℕ} {name : SlotName} {log : Log} {row used : ℕ} {answer : Stepped} {reply : StepReply} → name ≡ slotNamed slot
+      → Steps s name log (record { row = row; used = used }) answer → reply ≡ stepReply answer → HwsqStep image slot log row used reply
+  step-passed {slot} {name} {log} {row} {used} {answer} n p told =
       let place : Place = record { row = row; used = used } in
-      let q : Steps (stateFrom image) (slotNamed slot) clocks known values place answer = rw (e, n) at p in
-      record { answered = told ∙ ap stepReply (q .answered); steps = subst (Steps (stateFrom image) (slotNamed slot) clocks known values place) (q .answered) q; handed-on = step-back answer told ∙ ap (λ (a : Stepped). a .state) (q .answered) }
+      let q : Steps (stateFrom image) (slotNamed slot) log place answer = rw (e, n) at p in
+      record {
+        answered = told ∙ ap stepReply (q .answered);
+        steps = subst (Steps (stateFrom image) (slotNamed slot) log place) (q .answered) q;
+        handed-on = step-back answer told ∙ ap (λ (a : Stepped). a .state) (q .answered);
+      }

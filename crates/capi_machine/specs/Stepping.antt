@@ -2,13 +2,10 @@
 use Prim.Native.Nat.{ℕ}
 use mathlib.Core.Path.{_≡_}
 use mathlib.Core.Bool.{cond}
-use mathlib.Core.List.{List}
 use lib.Dec.{eqb}
 use Rattle.refusals.specs.Number.{unreadableNumber, unsteppableNumber}
-use Rattle.isa.specs.declared.addresses.MmioAddress.{MmioAddress}
-use Rattle.log.specs.declared.place.Place.{Place}
+use Rattle.log.specs.Log.{Log}
 use Rattle.state.specs.declared.slots.SlotName.{SlotName}
-use Rattle.state.specs.declared.state.State.{State}
 use Rattle.turn.specs.declared.turn.Effect.{Effect}
 use Rattle.machine.specs.Step.{stepOf}
 use Rattle.machine.specs.Promises.{Steps}
@@ -47,8 +44,11 @@ stepReply stepped = let told : EffectNumbers = effectNumbers (stepped .effect) i
 
 -- the reply tells the machine's answer, of which all holds that a step promises; its state stands for the machine's when it
 -- is handed in again
-module _ (image : StateImage) (slot : ℕ) (clocks known values : List ℕ) (row used : ℕ) where
+module _ (image : StateImage) (slot : ℕ) (log : Log) (row used : ℕ) where
+  abbrev pub steppedImage : Stepped
+  steppedImage = stepOf (stateFrom image) (slotNamed slot) log (record { row = row; used = used })
+
   pub record HwsqStep (reply : StepReply) : Type 0 where
-    pub answered : reply ≡ stepReply (stepOf (stateFrom image) (slotNamed slot) clocks known values (record { row = row; used = used }))
-    pub steps : Steps (stateFrom image) (slotNamed slot) clocks known values (record { row = row; used = used }) (stepOf (stateFrom image) (slotNamed slot) clocks known values (record { row = row; used = used }))
-    pub handed-on : stateFrom (reply .state) ≡ stepOf (stateFrom image) (slotNamed slot) clocks known values (record { row = row; used = used }) .state
+    pub answered : reply ≡ stepReply steppedImage
+    pub steps : Steps (stateFrom image) (slotNamed slot) log (record { row = row; used = used }) steppedImage
+    pub handed-on : stateFrom (reply .state) ≡ steppedImage .state

@@ -1,6 +1,7 @@
 // One step of a slot.
 ghost use mathlib.Core.Path.{_≡_};
 ghost use Rattle.capi_machine.specs.Stepping.{slotNamed, effectNumbers, stepReply, HwsqStep};
+ghost use Rattle.log.specs.Log.{logOf};
 use crate::images::StateImage;
 use crate::images::state_from;
 use crate::images::state_image;
@@ -50,7 +51,7 @@ pub extern "C" fn hwsq_step<'a>(
     row: usize,
     used: u64,
 ) -> StepReply
-    ensures { λ r. ⌜ HwsqStep state slot (now (clocks .entry)) (now (known .entry)) (now (values .entry)) row used r ⌝ }
+    ensures { λ r. ⌜ HwsqStep state slot (logOf (now (clocks .entry)) (now (known .entry)) (now (values .entry))) row used r ⌝ }
 {
     step_reply(machine::step(
         state_from(state),

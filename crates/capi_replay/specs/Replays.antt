@@ -1,13 +1,12 @@
 -- Replay's answer as numbers.
 use Prim.Native.Nat.{ℕ}
 use mathlib.Core.Path.{_≡_}
-use mathlib.Core.Bool.{Bool}
 use mathlib.Core.List.{List}
 use lib.ListN.{length}
 use Rattle.refusals.specs.Number.{unreplayableNumber}
-use Rattle.isa.specs.declared.addresses.CodeAddress.{CodeAddress}
-use Rattle.isa.specs.declared.addresses.MmioAddress.{MmioAddress}
-use Rattle.log.specs.declared.place.Place.{Place}
+use Rattle.flags.specs.declared.flags.Flags.{Flags}
+use Rattle.state.specs.declared.slots.Slot.{Slot}
+use Rattle.run.specs.SlotRun.{Scene}
 use Rattle.run.specs.Replay.{replayOf, Replays}
 use Rattle.run.specs.declared.answers.Ending.{Ending}
 use Rattle.run.specs.declared.answers.Replayed.{Replayed}
@@ -63,7 +62,6 @@ replayReply (ReplayAnswer.Ended told) = endedReply told
 replayReply (ReplayAnswer.Refused why) = unreplayedReply (unreplayableNumber why)
 
 -- the reply tells replay's answer, of which and of the lent entries all holds that replay promises
-module _ (family : ℕ) (code marks : List ℕ) (entry addr word flags0 flags1 : ℕ) (enable : Bool) (clocks known values : List ℕ) where
-  pub record HwsqReplay (old new : List ℕ) (reply : ReplayReply) : Type 0 where
-    pub answered : reply ≡ replayReply (replayOf family code marks entry addr word flags0 flags1 enable clocks known values (length old))
-    pub replays : Replays family code marks entry addr word flags0 flags1 enable clocks known values old new (replayOf family code marks entry addr word flags0 flags1 enable clocks known values (length old))
+pub record HwsqReplay (x : Scene) (slot : Slot) (flags : Flags) (old new : List ℕ) (reply : ReplayReply) : Type 0 where
+  pub answered : reply ≡ replayReply (replayOf x slot flags (length old))
+  pub replays : Replays x slot flags old new (replayOf x slot flags (length old))

@@ -1,6 +1,10 @@
 // Replay, its answer as numbers.
 ghost use mathlib.Core.Path.{_≡_};
 ghost use Rattle.capi_replay.specs.Replays.{endingNumber, endedReply, unreplayedReply, replayReply, HwsqReplay};
+ghost use Rattle.log.specs.Log.{logOf};
+ghost use Rattle.flags.specs.Flags.{flagsFromWords};
+ghost use Rattle.run.specs.SlotRun.{sceneFor};
+ghost use Rattle.run.specs.Replay.{slotAtEntry};
 use isa::CodeAddress;
 use isa::MmioAddress;
 use run::Ending;
@@ -48,7 +52,9 @@ pub extern "C" fn hwsq_replay<'a>(
     values: &'a [u32],
     writes: &mut [u32],
 ) -> ReplayReply
-    ensures { λ r. ⌜ HwsqReplay family (now (code .entry)) (now (marks .entry)) entry addr «data» «flags_0» «flags_1» enable (now (clocks .entry)) (now (known .entry)) (now (values .entry)) (now (writes .entry)) (now (writes .exit)) r ⌝ }
+    ensures { λ r. ⌜ HwsqReplay
+        (sceneFor family (now (code .entry)) (now (marks .entry)) enable (logOf (now (clocks .entry)) (now (known .entry)) (now (values .entry))))
+        (slotAtEntry entry addr «data») (flagsFromWords «flags_0» «flags_1») (now (writes .entry)) (now (writes .exit)) r ⌝ }
 {
     replay_reply(replay::replay(
         family,

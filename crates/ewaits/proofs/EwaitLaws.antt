@@ -9,8 +9,10 @@ use lib.Dec.{ltb, eqb}
 use lib.ListN.{length, getD}
 use borrow.Author.Tests.{ltb-true, eqb-true}
 use Rattle.waits.specs.Left.{leftFrom, leftOf}
+use Rattle.log.specs.Log.{Log}
 use Rattle.log.specs.Validity.{validLog, validPlace}
-use Rattle.ewaits.specs.Ewait.{bitOf, hasReading, passing, searchIn, searchFrom, in64, ewaitOf, passedBy, OnReading, leftAfter, SameReadings, Ewaits}
+use Rattle.ewaits.specs.Ewait.{bitOf, hasReading, passing, searchIn, searchFrom, in64, ewaitOf}
+use Rattle.ewaits.specs.Ewait.{passedBy, OnReading, leftAfter, SameReadings, withValues, Ewaits}
 use Rattle.ewaits.specs.declared.ewait.Released.{Released}
 use Rattle.log.specs.declared.place.Place.{Place}
 use Rattle.log.proofs.ValidLaws.{valid-row-start}
@@ -46,136 +48,143 @@ passing-found at used clocks (Released.End n) f = f
 
 -- ---- the search, row by row
 
-module _ (clocks known values : List ℕ) (event value : ℕ) where
+module _ (log : Log) (event value : ℕ) where
   -- the row has the reading
   abbrev released : ℕ → Bool
-  released row = hasReading (getD known row 0) (getD values row 0) event value
+  released row = hasReading (getD (log .known) row 0) (getD (log .values) row 0) event value
 
   module _ (row used : ℕ) where
-    search-end : length clocks ≤ row → searchFrom clocks known values event value row used ≡ Released.End 0
+    search-end : length (log .clocks) ≤ row → searchFrom log event value row used ≡ Released.End 0
     unfolding searchIn
-    search-end h = let z : length clocks - row ≡ 0 = omega arith in rw z
+    search-end h = let z : length (log .clocks) - row ≡ 0 = omega arith in rw z
 
-    search-here : row < length clocks → released row ≡ true
-        → searchFrom clocks known values event value row used ≡ Released.At (record { row = row; used = used }) 0
+    search-here : row < length (log .clocks) → released row ≡ true
+        → searchFrom log event value row used ≡ Released.At (record { row = row; used = used }) 0
     unfolding searchIn
-    search-here h t = rw (rows-left clocks row h, t)
+    search-here h t = rw (rows-left (log .clocks) row h, t)
 
-    search-next : row < length clocks → released row ≡ false
-        → searchFrom clocks known values event value row used ≡ passing (getD clocks row 0 - used) (searchFrom clocks known values event value (row + 1) 0)
+    search-next : row < length (log .clocks) → released row ≡ false
+        → searchFrom log event value row used ≡ passing (getD (log .clocks) row 0 - used) (searchFrom log event value (row + 1) 0)
     unfolding searchIn
-    search-next h t = rw (rows-left clocks row h, t)
+    search-next h t = rw (rows-left (log .clocks) row h, t)
 
     -- ---- the same after some clocks were passed by
 
     module _ (passed : ℕ) where
-      passing-end : length clocks ≤ row → passing passed (searchFrom clocks known values event value row used) ≡ Released.End passed
+      passing-end : length (log .clocks) ≤ row → passing passed (searchFrom log event value row used) ≡ Released.End passed
       passing-end h = rw (search-end h, add-zero)
 
-      passing-here : row < length clocks → released row ≡ true
-          → passing passed (searchFrom clocks known values event value row used) ≡ Released.At (record { row = row; used = used }) passed
+      passing-here : row < length (log .clocks) → released row ≡ true
+          → passing passed (searchFrom log event value row used) ≡ Released.At (record { row = row; used = used }) passed
       passing-here h t = rw (search-here h t, add-zero)
 
-      passing-next : row < length clocks → released row ≡ false
-          → passing passed (searchFrom clocks known values event value row used) ≡ passing (passed + (getD clocks row 0 - used)) (searchFrom clocks known values event value (row + 1) 0)
-      passing-next h t = rw (search-next h t) (passing-more passed (getD clocks row 0 - used) (searchFrom clocks known values event value (row + 1) 0))
+      passing-next : row < length (log .clocks) → released row ≡ false
+          → passing passed (searchFrom log event value row used) ≡ passing (passed + (getD (log .clocks) row 0 - used)) (searchFrom log event value (row + 1) 0)
+      passing-next h t = rw (search-next h t) (passing-more passed (getD (log .clocks) row 0 - used) (searchFrom log event value (row + 1) 0))
 
       -- and those kept in 64 bits
-      pub in64-end : passed < 2 ^ 64 → length clocks ≤ row → in64 (passing passed (searchFrom clocks known values event value row used)) ≡ Released.End passed
+      pub in64-end : passed < 2 ^ 64 → length (log .clocks) ≤ row → in64 (passing passed (searchFrom log event value row used)) ≡ Released.End passed
       in64-end l h = rw (passing-end h) (in64-fits (Released.End passed) l)
 
-      pub in64-here : passed < 2 ^ 64 → row < length clocks → released row ≡ true
-          → in64 (passing passed (searchFrom clocks known values event value row used)) ≡ Released.At (record { row = row; used = used }) passed
+      pub in64-here : passed < 2 ^ 64 → row < length (log .clocks) → released row ≡ true
+          → in64 (passing passed (searchFrom log event value row used)) ≡ Released.At (record { row = row; used = used }) passed
       in64-here l h t = rw (passing-here h t) (in64-fits (Released.At (record { row = row; used = used }) passed) l)
 
-      pub in64-next : row < length clocks → released row ≡ false
-          → in64 (passing passed (searchFrom clocks known values event value row used))
-          ≡ in64 (passing ((passed + (getD clocks row 0 - used)) % 2 ^ 64) (searchFrom clocks known values event value (row + 1) 0))
+      pub in64-next : row < length (log .clocks) → released row ≡ false
+          → in64 (passing passed (searchFrom log event value row used))
+          ≡ in64 (passing ((passed + (getD (log .clocks) row 0 - used)) % 2 ^ 64) (searchFrom log event value (row + 1) 0))
       in64-next h t =
-          ap in64 (passing-next h t) ∙ sym (in64-passing (passed + (getD clocks row 0 - used)) (searchFrom clocks known values event value (row + 1) 0))
+          ap in64 (passing-next h t) ∙ sym (in64-passing (passed + (getD (log .clocks) row 0 - used)) (searchFrom log event value (row + 1) 0))
 
-  pub in64-start : (p : Place) → in64 (passing 0 (searchFrom clocks known values event value (p .row) (p .used))) ≡ ewaitOf clocks known values p event value
-  in64-start p = ap in64 (passing-none (searchFrom clocks known values event value (p .row) (p .used)))
+  pub in64-start : (p : Place) → in64 (passing 0 (searchFrom log event value (p .row) (p .used))) ≡ ewaitOf log p event value
+  in64-start p = ap in64 (passing-none (searchFrom log event value (p .row) (p .used)))
 
   -- what the three laws keep holds of every search
   search-elim : (P : ℕ → ℕ → Released → Type 0)
-      → ((row used : ℕ) → length clocks ≤ row → P row used (Released.End 0))
-      → ((row used : ℕ) → row < length clocks → released row ≡ true → P row used (Released.At (record { row = row; used = used }) 0))
-      → ((row used : ℕ) (r : Released) → row < length clocks → released row ≡ false → P (row + 1) 0 r → P row used (passing (getD clocks row 0 - used) r))
-      → (row used : ℕ) → P row used (searchFrom clocks known values event value row used)
-  search-elim P at-end here onward row used = by (length clocks - row) row used refl
+      → ((row used : ℕ) → length (log .clocks) ≤ row → P row used (Released.End 0))
+      → ((row used : ℕ) → row < length (log .clocks) → released row ≡ true → P row used (Released.At (record { row = row; used = used }) 0))
+      → ((row used : ℕ) (r : Released) → row < length (log .clocks) → released row ≡ false → P (row + 1) 0 r
+      → P row used (passing (getD (log .clocks) row 0 - used) r))
+      → (row used : ℕ) → P row used (searchFrom log event value row used)
+  search-elim P at-end here onward row used = by (length (log .clocks) - row) row used refl
     where
-      by : (f row used : ℕ) → f ≡ length clocks - row → P row used (searchFrom clocks known values event value row used)
-      by zero row used e = let h : length clocks ≤ row = omega arith in rw (search-end row used h) (at-end row used h)
+      by : (f row used : ℕ) → f ≡ length (log .clocks) - row → P row used (searchFrom log event value row used)
+      by zero row used e = let h : length (log .clocks) ≤ row = omega arith in rw (search-end row used h) (at-end row used h)
       by (suc f) row used e = at (released row) refl (by f (row + 1) 0 (omega arith))
         where
-          h : row < length clocks
+          h : row < length (log .clocks)
           h = omega arith
 
-          at : (b : Bool) → released row ≡ b → P (row + 1) 0 (searchFrom clocks known values event value (row + 1) 0) → P row used (searchFrom clocks known values event value row used)
+          at : (b : Bool) → released row ≡ b → P (row + 1) 0 (searchFrom log event value (row + 1) 0) → P row used (searchFrom log event value row used)
           at true t later = rw (search-here row used h t) (here row used h t)
-          at false t later = rw (search-next row used h t) (onward row used (searchFrom clocks known values event value (row + 1) 0) h t later)
+          at false t later = rw (search-next row used h t) (onward row used (searchFrom log event value (row + 1) 0) h t later)
 
   -- a search goes no further than a row that has the reading
-  pub search-finds : (at : ℕ) → at < length clocks → released at ≡ true → (row used : ℕ) → row ≤ at → FoundBy at used (searchFrom clocks known values event value row used)
+  pub search-finds : (at : ℕ) → at < length (log .clocks) → released at ≡ true → (row used : ℕ) → row ≤ at
+      → FoundBy at used (searchFrom log event value row used)
   search-finds at inside there =
       search-elim (λ row used r. row ≤ at → FoundBy at used r)
       (λ row used h l. absurd (omega arith))
       (λ row used h t l. (l, omega arith))
       (λ row used r h t k l.
       let apart : row ≡ at → ⊥ = λ e. let z : _≡_ {A = ℕ} 0 1 = cc in omega arith in
-      passing-found at used (getD clocks row 0 - used) r (k (omega arith)))
+      passing-found at used (getD (log .clocks) row 0 - used) r (k (omega arith)))
 
   -- ---- what is promised
 
-  reading : (row : ℕ) → released row ≡ true → (event < 32) × (bitOf (getD known row 0) event ≡ 1) × (bitOf (getD values row 0) event ≡ value)
+  reading : (row : ℕ) → released row ≡ true → (event < 32) × (bitOf (getD (log .known) row 0) event ≡ 1) × (bitOf (getD (log .values) row 0) event ≡ value)
   unfolding hasReading
   reading row t =
       let one = and-eq-true-iff (ltb event 32) _ .0 t in
-      let two = and-eq-true-iff (eqb (bitOf (getD known row 0) event) 1) (eqb (bitOf (getD values row 0) event) value) .0 (one .1) in
-      (ltb-true event 32 (one .0), eqb-true (bitOf (getD known row 0) event) 1 (two .0), eqb-true (bitOf (getD values row 0) event) value (two .1))
+      let two = and-eq-true-iff (eqb (bitOf (getD (log .known) row 0) event) 1) (eqb (bitOf (getD (log .values) row 0) event) value) .0 (one .1) in (
+        ltb-true event 32 (one .0),
+        eqb-true (bitOf (getD (log .known) row 0) event) 1 (two .0),
+        eqb-true (bitOf (getD (log .values) row 0) event) value (two .1),
+      )
 
-  on-reading-passing : (c : ℕ) (r : Released) → OnReading known values event value r → OnReading known values event value (passing c r)
+  on-reading-passing : (c : ℕ) (r : Released) → OnReading log event value r → OnReading log event value (passing c r)
   on-reading-passing c (Released.At p n) o = o
   on-reading-passing c (Released.End n) o = tt
 
-  on-reading-in64 : (r : Released) → OnReading known values event value r → OnReading known values event value (in64 r)
+  on-reading-in64 : (r : Released) → OnReading log event value r → OnReading log event value (in64 r)
   on-reading-in64 (Released.At p n) o = o
   on-reading-in64 (Released.End n) o = tt
 
   -- an event with no reading releases no wait
-  pub ewait-on-reading : (p : Place) → OnReading known values event value (ewaitOf clocks known values p event value)
+  pub ewait-on-reading : (p : Place) → OnReading log event value (ewaitOf log p event value)
   ewait-on-reading p =
-      on-reading-in64 (searchFrom clocks known values event value (p .row) (p .used))
-      (search-elim (λ row used r. OnReading known values event value r)
+      on-reading-in64 (searchFrom log event value (p .row) (p .used))
+      (search-elim (λ row used r. OnReading log event value r)
       (λ row used h. tt)
       (λ row used h t. reading row t)
-      (λ row used r h t k. on-reading-passing (getD clocks row 0 - used) r k)
+      (λ row used r h t k. on-reading-passing (getD (log .clocks) row 0 - used) r k)
       (p .row) (p .used))
 
   passed-passing : (c : ℕ) (r : Released) → passedBy (passing c r) ≡ c + passedBy r
   passed-passing c (Released.At p n) = refl
   passed-passing c (Released.End n) = refl
 
-  left-after-passing : (c : ℕ) (r : Released) → leftAfter clocks (passing c r) ≡ leftAfter clocks r
+  left-after-passing : (c : ℕ) (r : Released) → leftAfter (log .clocks) (passing c r) ≡ leftAfter (log .clocks) r
   left-after-passing c (Released.At p n) = refl
   left-after-passing c (Released.End n) = refl
 
   -- what a search passed by and what is left are what was left before
   search-spent : (row used : ℕ)
-      → leftFrom clocks row used ≡ passedBy (searchFrom clocks known values event value row used) + leftAfter clocks (searchFrom clocks known values event value row used)
+      → leftFrom (log .clocks) row used ≡ passedBy (searchFrom log event value row used) + leftAfter (log .clocks) (searchFrom log event value row used)
   search-spent =
-      search-elim (λ row used r. leftFrom clocks row used ≡ passedBy r + leftAfter clocks r)
-      (λ row used h. left-end clocks row used h)
-      (λ row used h t. sym (zero-add (leftFrom clocks row used)))
-      (λ row used r h t k. omega (arith, left-on clocks row used h, passed-passing (getD clocks row 0 - used) r, left-after-passing (getD clocks row 0 - used) r))
+      search-elim (λ row used r. leftFrom (log .clocks) row used ≡ passedBy r + leftAfter (log .clocks) r)
+      (λ row used h. left-end (log .clocks) row used h)
+      (λ row used h t. sym (zero-add (leftFrom (log .clocks) row used)))
+      (λ row used r h t k.
+      let rest = getD (log .clocks) row 0 - used in
+      omega (arith, left-on (log .clocks) row used h, passed-passing rest r, left-after-passing rest r))
 
   -- where what was left fits 64 bits, an ewait is its search
-  ewait-search : (p : Place) → leftOf clocks p < 2 ^ 64 → ewaitOf clocks known values p event value ≡ searchFrom clocks known values event value (p .row) (p .used)
-  ewait-search p l = in64-fits (searchFrom clocks known values event value (p .row) (p .used)) (omega (arith, search-spent (p .row) (p .used)))
+  ewait-search : (p : Place) → leftOf (log .clocks) p < 2 ^ 64 → ewaitOf log p event value ≡ searchFrom log event value (p .row) (p .used)
+  ewait-search p l = in64-fits (searchFrom log event value (p .row) (p .used)) (omega (arith, search-spent (p .row) (p .used)))
 
-  pub ewait-spent : (p : Place) → leftOf clocks p < 2 ^ 64
-      → leftOf clocks p ≡ passedBy (ewaitOf clocks known values p event value) + leftAfter clocks (ewaitOf clocks known values p event value)
+  pub ewait-spent : (p : Place) → leftOf (log .clocks) p < 2 ^ 64
+      → leftOf (log .clocks) p ≡ passedBy (ewaitOf log p event value) + leftAfter (log .clocks) (ewaitOf log p event value)
   ewait-spent p l = rw (ewait-search p l) (search-spent (p .row) (p .used))
 
 -- ---- value bits without a known bit
@@ -189,25 +198,28 @@ same-test k v w event value s = by (eqb (bitOf k event) 1) refl
     by true e = rw (s (eqb-true (bitOf k event) 1 e))
     by false e = rw e
 
-same-search : (n : ℕ) (clocks known values others : List ℕ) (event value row used : ℕ) → SameReadings known values others event
-    → searchIn n clocks known values event value row used ≡ searchIn n clocks known others event value row used
+same-search : (n : ℕ) (log : Log) (others : List ℕ) (event value row used : ℕ) → SameReadings log others event
+    → searchIn n log event value row used ≡ searchIn n (withValues log others) event value row used
 unfolding searchIn
-same-search zero clocks known values others event value row used s = refl
-same-search (suc n) clocks known values others event value row used s =
-    rw (same-test (getD known row 0) (getD values row 0) (getD others row 0) event value (s row), same-search n clocks known values others event value (row + 1) 0 s)
+same-search zero log others event value row used s = refl
+same-search (suc n) log others event value row used s =
+    rw (
+      same-test (getD (log .known) row 0) (getD (log .values) row 0) (getD others row 0) event value (s row),
+      same-search n log others event value (row + 1) 0 s,
+    )
 
-ewait-unread : (clocks known values : List ℕ) (p : Place) (event value : ℕ) (others : List ℕ) → SameReadings known values others event
-    → ewaitOf clocks known values p event value ≡ ewaitOf clocks known others p event value
-ewait-unread clocks known values p event value others s = ap in64 (same-search (length clocks - p .row) clocks known values others event value (p .row) (p .used) s)
+ewait-unread : (log : Log) (p : Place) (event value : ℕ) (others : List ℕ) → SameReadings log others event
+    → ewaitOf log p event value ≡ ewaitOf (withValues log others) p event value
+ewait-unread log p event value others s = ap in64 (same-search (length (log .clocks) - p .row) log others event value (p .row) (p .used) s)
 
 -- all that an ewait promises
-pub ewaits : (clocks known values : List ℕ) (p : Place) (event value : ℕ) (answer : Released) → answer ≡ ewaitOf clocks known values p event value
-    → Ewaits clocks known values p event value answer
-ewaits clocks known values p event value answer e = record {
+pub ewaits : (log : Log) (p : Place) (event value : ℕ) (answer : Released) → answer ≡ ewaitOf log p event value
+    → Ewaits log p event value answer
+ewaits log p event value answer e = record {
   answered = e;
-  on-reading = subst (OnReading known values event value) (sym e) (ewait-on-reading clocks known values event value p);
-  unread = λ others s. e ∙ ewait-unread clocks known values p event value others s;
-  spent = λ l. subst (λ (r : Released). leftOf clocks p ≡ passedBy r + leftAfter clocks r) (sym e) (ewait-spent clocks known values event value p l);
+  on-reading = subst (OnReading log event value) (sym e) (ewait-on-reading log event value p);
+  unread = λ others s. e ∙ ewait-unread log p event value others s;
+  spent = λ l. subst (λ (r : Released). leftOf (log .clocks) p ≡ passedBy r + leftAfter (log .clocks) r) (sym e) (ewait-spent log event value p l);
 }
 
 -- ---- on a valid log
@@ -217,21 +229,21 @@ abbrev pub ReleasedWithin : List ℕ → Released → Type 0
 ReleasedWithin clocks (Released.At p n) = validPlace clocks p ≡ true
 ReleasedWithin clocks (Released.End n) = Unit {0}
 
-module _ (clocks known values : List ℕ) (valid : validLog clocks known values ≡ true) (event value : ℕ) where
+module _ (log : Log) (valid : validLog log ≡ true) (event value : ℕ) where
   -- 64 bits hold all that is passed by
-  valid-search : (p : Place) → ewaitOf clocks known values p event value ≡ searchFrom clocks known values event value (p .row) (p .used)
-  valid-search p = ewait-search clocks known values event value p (left-fits clocks known values valid p)
+  valid-search : (p : Place) → ewaitOf log p event value ≡ searchFrom log event value (p .row) (p .used)
+  valid-search p = ewait-search log event value p (left-fits log valid p)
 
-  within-passing : (c : ℕ) (r : Released) → ReleasedWithin clocks r → ReleasedWithin clocks (passing c r)
+  within-passing : (c : ℕ) (r : Released) → ReleasedWithin (log .clocks) r → ReleasedWithin (log .clocks) (passing c r)
   within-passing c (Released.At p n) h = h
   within-passing c (Released.End n) h = tt
 
-  pub ewait-valid : (p : Place) → validPlace clocks p ≡ true → ReleasedWithin clocks (ewaitOf clocks known values p event value)
+  pub ewait-valid : (p : Place) → validPlace (log .clocks) p ≡ true → ReleasedWithin (log .clocks) (ewaitOf log p event value)
   ewait-valid p v =
       rw (valid-search p)
-      (search-elim clocks known values event value
-      (λ row used r. validPlace clocks (record { row = row; used = used }) ≡ true → ReleasedWithin clocks r)
+      (search-elim log event value
+      (λ row used r. validPlace (log .clocks) (record { row = row; used = used }) ≡ true → ReleasedWithin (log .clocks) r)
       (λ row used h k. tt)
       (λ row used h t k. k)
-      (λ row used r h t k m. within-passing (getD clocks row 0 - used) r (k (valid-row-start clocks known values valid (row + 1) (omega arith))))
+      (λ row used r h t k m. within-passing (getD (log .clocks) row 0 - used) r (k (valid-row-start log valid (row + 1) (omega arith))))
       (p .row) (p .used) v)

@@ -6,6 +6,7 @@ use mathlib.Core.List.{List}
 use lib.ListN.{length, getD}
 use lib.Dec.{ltb, eqb}
 use Rattle.waits.specs.Left.{leftOf}
+use Rattle.log.specs.Log.{Log, logOf}
 use Rattle.log.specs.declared.place.Place.{Place}
 use Rattle.ewaits.specs.declared.ewait.Released.{Released}
 
@@ -23,22 +24,22 @@ passing clocks (Released.End n) = Released.End (clocks + n)
 
 -- the search over the rows left, the present one first: the first row with the reading releases the wait, at its start if it
 -- is a later row; a row without it is passed by
-unfoldable pub searchIn : ℕ → List ℕ → List ℕ → List ℕ → ℕ → ℕ → ℕ → ℕ → Released
-searchIn zero clocks known values event value row used = Released.End 0
-searchIn (suc n) clocks known values event value row used =
-    let later = passing (getD clocks row 0 - used) (searchIn n clocks known values event value (row + 1) 0) in
-    cond (hasReading (getD known row 0) (getD values row 0) event value) (Released.At (record { row = row; used = used }) 0) later
+unfoldable pub searchIn : ℕ → Log → ℕ → ℕ → ℕ → ℕ → Released
+searchIn zero log event value row used = Released.End 0
+searchIn (suc n) log event value row used =
+    let later = passing (getD (log .clocks) row 0 - used) (searchIn n log event value (row + 1) 0) in
+    cond (hasReading (getD (log .known) row 0) (getD (log .values) row 0) event value) (Released.At (record { row = row; used = used }) 0) later
 
-abbrev pub searchFrom : List ℕ → List ℕ → List ℕ → ℕ → ℕ → ℕ → ℕ → Released
-searchFrom clocks known values event value row used = searchIn (length clocks - row) clocks known values event value row used
+abbrev pub searchFrom : Log → ℕ → ℕ → ℕ → ℕ → Released
+searchFrom log event value row used = searchIn (length (log .clocks) - row) log event value row used
 
 -- clocks passed by are kept in 64 bits, which no valid log fills
 abbrev pub in64 : Released → Released
 in64 (Released.At p n) = Released.At p (n % 2 ^ 64)
 in64 (Released.End n) = Released.End (n % 2 ^ 64)
 
-abbrev pub ewaitOf : List ℕ → List ℕ → List ℕ → Place → ℕ → ℕ → Released
-ewaitOf clocks known values p event value = in64 (searchFrom clocks known values event value (p .row) (p .used))
+abbrev pub ewaitOf : Log → Place → ℕ → ℕ → Released
+ewaitOf log p event value = in64 (searchFrom log event value (p .row) (p .used))
 
 -- ---- what an ewait promises
 
@@ -47,25 +48,29 @@ passedBy (Released.At p n) = n
 passedBy (Released.End n) = n
 
 -- an event with no reading releases no wait: the row that releases has one, known bit 1 and value bit as asked
-abbrev pub OnReading : List ℕ → List ℕ → ℕ → ℕ → Released → Type 0
-OnReading known values event value (Released.At p n) =
-    (event < 32) × (bitOf (getD known (p .row) 0) event ≡ 1) × (bitOf (getD values (p .row) 0) event ≡ value)
-OnReading known values event value (Released.End n) = Unit {0}
+abbrev pub OnReading : Log → ℕ → ℕ → Released → Type 0
+OnReading log event value (Released.At p n) =
+    (event < 32) × (bitOf (getD (log .known) (p .row) 0) event ≡ 1) × (bitOf (getD (log .values) (p .row) 0) event ≡ value)
+OnReading log event value (Released.End n) = Unit {0}
 
 -- what is left from where the search ended
 abbrev pub leftAfter : List ℕ → Released → ℕ
 leftAfter clocks (Released.At p n) = leftOf clocks p
 leftAfter clocks (Released.End n) = 0
 
--- two value columns that agree wherever the known bit is 1
-abbrev pub SameReadings : List ℕ → List ℕ → List ℕ → ℕ → Type 0
-SameReadings known values others event =
-    (row : ℕ) → bitOf (getD known row 0) event ≡ 1 → bitOf (getD values row 0) event ≡ bitOf (getD others row 0) event
+-- a value column that agrees with the log's wherever the known bit is 1
+abbrev pub SameReadings : Log → List ℕ → ℕ → Type 0
+SameReadings log others event =
+    (row : ℕ) → bitOf (getD (log .known) row 0) event ≡ 1 → bitOf (getD (log .values) row 0) event ≡ bitOf (getD others row 0) event
 
-pub record Ewaits (clocks known values : List ℕ) (p : Place) (event value : ℕ) (answer : Released) : Type 0 where
-  pub answered : answer ≡ ewaitOf clocks known values p event value
-  pub on-reading : OnReading known values event value answer
+-- the log with that value column
+abbrev pub withValues : Log → List ℕ → Log
+withValues log others = logOf (log .clocks) (log .known) others
+
+pub record Ewaits (log : Log) (p : Place) (event value : ℕ) (answer : Released) : Type 0 where
+  pub answered : answer ≡ ewaitOf log p event value
+  pub on-reading : OnReading log event value answer
   -- value bits without a known bit change no answer
-  pub unread : (others : List ℕ) → SameReadings known values others event → answer ≡ ewaitOf clocks known others p event value
+  pub unread : (others : List ℕ) → SameReadings log others event → answer ≡ ewaitOf (withValues log others) p event value
   -- what it passed by and what is left are what was left before, where that fits 64 bits
-  pub spent : leftOf clocks p < 2 ^ 64 → leftOf clocks p ≡ passedBy answer + leftAfter clocks answer
+  pub spent : leftOf (log .clocks) p < 2 ^ 64 → leftOf (log .clocks) p ≡ passedBy answer + leftAfter (log .clocks) answer

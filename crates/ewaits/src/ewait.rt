@@ -1,6 +1,7 @@
 // A wait for an event: a search over the rows.
 ghost use mathlib.Core.Path.{_≡_};
 ghost use Rattle.ewaits.specs.Ewait.{hasReading, Ewaits};
+ghost use Rattle.log.specs.Log.{logOf};
 use crate::row::mask_at;
 use log::Place;
 use waits::unused;
@@ -36,7 +37,7 @@ pub fn event_wait<'a>(
     event: u8,
     value: u8,
 ) -> Released
-    ensures { λ r. ⌜ Ewaits (now (clocks .entry)) (now (known .entry)) (now (values .entry)) at event value r ⌝ }
+    ensures { λ r. ⌜ Ewaits (logOf (now (clocks .entry)) (now (known .entry)) (now (values .entry))) at event value r ⌝ }
 {
     let mut row = at.row;
     let mut used = at.used;

@@ -1,6 +1,6 @@
 -- How long the lines of a report can be. Assumes nothing.
 use Prim.Native.Nat.{ℕ, zero, suc, _+_, _*_, _/_, _%_, _≤_}
-use mathlib.Core.Path.{_≡_, refl}
+use mathlib.Core.Path.{_≡_}
 use mathlib.Core.List.{List, [], _∷_}
 use native.Mathlib.Omega.{arith}
 use lib.Count.{onesIn}
@@ -14,15 +14,19 @@ use Rattle.run.specs.Run.{Write}
 use Rattle.refusals.specs.declared.refusals.Fault.{Fault}
 use Rattle.verdict.specs.declared.verdicts.Verdict.{Verdict}
 use Rattle.run.specs.declared.answers.Ending.{Ending}
-use Rattle.records.specs.Job.{CountsFit, knownOf}
+use Rattle.records.specs.Job.{knownOf}
 use Rattle.records.specs.declared.contents.Job.{Job}
 use Rattle.text.proofs.DecimalLaws.{within, short}
 use Rattle.text.proofs.HexLaws.{eight}
 use Rattle.text.specs.Digits.{decimal, hexWord}
 use Rattle.job.specs.Lines.{named, hexNamed, refusedLine, familyLine, faultLine, passLine, writeLine, writeLines, rowLine, rowLines, endingText, endLine, statusLine}
 use Rattle.job.specs.Report.{runLines, verdictLines, jobLines}
-use Rattle.job.specs.Script.{verdictOf, jobRun, toldRun, stateAfter, statusOf}
-use Rattle.job.proofs.ScriptLaws.{passed-fits, writes-few}
+use Rattle.run.specs.Replay.{endingOf}
+use Rattle.execution.specs.Execution.{executingSlot}
+use Rattle.state.specs.Slot.{withSlot}
+use Rattle.job.specs.Script.{verdictOf, jobRun, statusOf}
+use Rattle.job.specs.Inside.{ReadyToRun}
+use Rattle.job.proofs.ScriptLaws.{writes-few}
 
 named-short : (text : List ℕ) (n : ℕ) → length (named text n) ≤ length text + 20
 named-short text n = omega (arith, length-append text (decimal n), short n)
@@ -97,19 +101,20 @@ status-length word = simp length-append (omega (arith, eight word))
 run-length : (j : Job) → length (jobRun j .writes) ≤ 170 → length (knownOf j) ≤ 1024 → length (runLines j) ≤ 48188
 unfolding runLines
 run-length j writes rows =
-    let s = stateAfter (j .state) (toldRun j) in
+    let r = jobRun j in
     simp length-append
-    (omega (arith, writes-length (jobRun j .writes), rows-length 0 (knownOf j), end-length (toldRun j .ending) (toldRun j .place), status-length (statusOf s)))
+    (omega (arith, writes-length (r .writes), rows-length 0 (knownOf j), end-length (endingOf (r .slot .mode)) (r .place), status-length (statusOf (withSlot (j .state) (executingSlot (j .state)) (r .slot) (r .flags)))))
 
 -- ---- every report has room in the lent bytes
 
-verdict-length : (j : Job) → length (knownOf j) ≤ 1024 → (v : Verdict) → verdictOf j ≡ v → length (verdictLines j v) ≤ 48327
-verdict-length j rows (Verdict.Pass place count writes clocks) e =
-    omega (arith, length-append (passLine (place .0) count writes clocks) (runLines j), pass-length (place .0) count writes clocks, run-length j (writes-few j (passed-fits j e)) rows)
-verdict-length j rows (Verdict.Fault fault place) e = omega (arith, fault-length (faultNumber fault) (place .0))
+verdict-length : (j : Job) → ReadyToRun j → length (knownOf j) ≤ 1024 → (v : Verdict) → length (verdictLines j v) ≤ 48327
+verdict-length j ready rows (Verdict.Pass place count writes clocks) =
+    omega (arith, length-append (passLine (place .0) count writes clocks) (runLines j), pass-length (place .0) count writes clocks, run-length j (writes-few j ready) rows)
+verdict-length j ready rows (Verdict.Fault fault place) = omega (arith, fault-length (faultNumber fault) (place .0))
 
-pub job-length : (j : Job) → CountsFit (j .counts) → length (jobLines j) ≤ 65536
+pub job-length : (j : Job) → ReadyToRun j → length (jobLines j) ≤ 65536
 unfolding jobLines
-job-length j fit =
-    let rows : length (knownOf j) ≤ 1024 = omega (arith, length-take (j .counts .rows) (j .known), fit .rows) in
-    omega (arith, length-append (familyLine (j .state .family)) (verdictLines j (verdictOf j)), family-length (j .state .family), verdict-length j rows (verdictOf j) refl)
+job-length j ready =
+    let rows : length (knownOf j) ≤ 1024 = omega (arith, length-take (j .counts .rows) (j .known), ready .sound .fit .rows) in
+    omega
+    (arith, length-append (familyLine (j .state .family)) (verdictLines j (verdictOf j)), family-length (j .state .family), verdict-length j ready rows (verdictOf j))

@@ -1,3 +1,4 @@
 pub mod LineLaws
 pub mod ScriptLaws
 pub mod Lengths
+pub mod JobRuns

@@ -1,33 +1,28 @@
 -- Parts of a job's arrays, and the run of its script. Assumes nothing.
-use Prim.Native.Nat.{ℕ, suc, _*_, _≤_}
+use Prim.Native.Nat.{ℕ, _*_, _≤_}
 use mathlib.Core.Path.{_≡_, refl, ap, sym, _∙_}
-use mathlib.Core.Bool.{Bool, true, false, cond}
+use mathlib.Core.Bool.{true}
 use mathlib.Core.List.{List, [], _∷_}
 use native.Mathlib.Omega.{arith}
 use lib.ListN.{length, take, drop, length-take}
 use lib.Seq.{length-take-le, take-at}
 use borrow.Author.Tests.{le-leb}
 use Rattle.families.specs.Family.{codeSize}
-use Rattle.isa.proofs.Tests.{both-left, by-family-elim}
-use Rattle.isa.specs.declared.addresses.CodeAddress.{CodeAddress}
-use Rattle.flags.specs.Flags.{flagsWord0, flagsWord1}
-use Rattle.verdict.specs.Auditor.{auditOf, verdictIn, knowNothing}
-use Rattle.script.specs.Input.{scriptFits, rangesFit, inputFits}
-use Rattle.run.specs.Replay.{entriesOf, writtenInto, replayOf, lentAfter}
-use Rattle.run.specs.Run.{Write}
-use Rattle.refusals.specs.declared.refusals.Fault.{Fault}
-use Rattle.verdict.specs.declared.verdicts.Verdict.{Verdict}
-use Rattle.run.specs.declared.answers.ReplayAnswer.{ReplayAnswer}
-use Rattle.run.specs.declared.answers.Replayed.{Replayed}
+use Rattle.isa.proofs.Tests.{both-left}
+use Rattle.fetch.proofs.Places.{size-small}
+use Rattle.script.specs.Input.{scriptFits, rangesFit}
+use Rattle.script.proofs.Scripts.{fits-script}
 use Rattle.refusals.specs.declared.refusals.Unreplayable.{Unreplayable}
-use Rattle.run.proofs.Room.{replay-room}
-use Rattle.records.specs.Job.{rangesOf, clocksOf, knownOf, valuesOf}
+use Rattle.run.specs.Run.{Write}
+use Rattle.run.specs.Replay.{fullSteps, entriesOf, writtenInto, progressOf, runAnswerOf, lentAfter}
+use Rattle.run.specs.declared.answers.Progress.{Progress}
+use Rattle.run.specs.declared.answers.RunAnswer.{RunAnswer}
+use Rattle.run.proofs.Room.{slot-room}
+use Rattle.records.specs.Job.{rangesOf}
+use Rattle.records.specs.Started.{executing, codeOf, marksOf, entryOf}
 use Rattle.records.specs.declared.contents.Job.{Job}
-use Rattle.job.specs.Script.{executing, codeOf, marksOf, entryOf, verdictOf, jobRun, toldRun}
-use Rattle.job.specs.Inside.{RunsJob, ReadyToRun}
-
-size-small : (family : ℕ) → codeSize family ≤ 512
-size-small family = by-family-elim (λ (n : ℕ). n ≤ 512) family 64 128 256 512 (omega arith) (omega arith) (omega arith) (omega arith) (λ _. omega arith)
+use Rattle.job.specs.Script.{jobScene, jobRun}
+use Rattle.job.specs.Inside.{RunsJob, ReadyToRun, RanJob}
 
 -- a family's code RAM lies in the 512 bytes of a state
 pub ram-lies : (family : ℕ) (bytes : List ℕ) (n : ℕ) → length bytes ≡ 512 → n ≡ codeSize family → n ≤ length bytes
@@ -36,56 +31,55 @@ ram-lies family bytes n h e = omega (arith, size-small family)
 pub part-length : (n : ℕ) (l : List ℕ) → n ≤ length l → n ≡ length (take n l)
 part-length n l h = sym (length-take-le n l h)
 
--- ---- the run of a job that was read without fault, and whose script passed
+-- ---- the run of a job that was read without fault
 
-ended-same : {a b : Replayed} → ReplayAnswer.Ended a ≡ ReplayAnswer.Ended b → a ≡ b
+ended-same : {a b : Progress} → RunAnswer.Ended a ≡ RunAnswer.Ended b → a ≡ b
 ended-same h = cc
 
 entries-length : (writes : List Write) → length (entriesOf writes) ≡ 2 * length writes
 entries-length [] = refl
 entries-length (w ∷ writes) = let h = entries-length writes in omega arith
 
--- a passed script fits its family
-passed : (b : Bool) (v : Verdict) {place : CodeAddress} {count writes clocks : ℕ} → cond b v (Verdict.Fault Fault.Input (record { 0 = 0 })) ≡ Verdict.Pass place count writes clocks → b ≡ true
-passed true v e = refl
-passed false v e = absurd (let z : _≡_ {A = ℕ} 0 1 = cc in let w : ⊥ = omega arith in w)
-
-pub passed-fits : (j : Job) {place : CodeAddress} {count writes clocks : ℕ} → verdictOf j ≡ Verdict.Pass place count writes clocks → scriptFits (j .state .family) (codeOf (j .state)) (marksOf (j .state)) (entryOf (j .state)) ≡ true
-unfolding verdictOf auditOf
-passed-fits j e =
-    let s = j .state in
-    both-left (scriptFits (s .family) (codeOf s) (marksOf s) (entryOf s)) (rangesFit (rangesOf j))
-    (passed (inputFits (s .family) (codeOf s) (marksOf s) (entryOf s) (rangesOf j)) (verdictIn (codeSize (s .family)) (s .family) (codeOf s) (marksOf s) (rangesOf j) (entryOf s) knowNothing) e)
-
--- and makes at most 170 writes
-pub writes-few : (j : Job) → scriptFits (j .state .family) (codeOf (j .state)) (marksOf (j .state)) (entryOf (j .state)) ≡ true → length (jobRun j .writes) ≤ 170
-unfolding jobRun
-writes-few j h =
-    let s = j .state in
-    replay-room (s .family) (codeOf s) (marksOf s) (entryOf s) (executing s .addr .0) (executing s .«data») (flagsWord0 (s .flags)) (flagsWord1 (s .flags)) (s .enable) (clocksOf j) (knownOf j) (valuesOf j) h (suc (codeSize (s .family)))
-
-pub never-refused : {A : Type 0} {why : Unreplayable} {told : Replayed} → ReplayAnswer.Refused why ≡ ReplayAnswer.Ended told → A
+pub never-refused : {A : Type 0} {why : Unreplayable} {last : Progress} → RunAnswer.Refused why ≡ RunAnswer.Ended last → A
 never-refused h = absurd (let z : _≡_ {A = ℕ} 0 1 = cc in let w : ⊥ = omega arith in w)
 
-module _ (j : Job) (old new : List ℕ) (answer : ReplayAnswer) (ready : ReadyToRun j) (runs : RunsJob j old new answer) (lent : length old ≡ 340) where
-  -- replay does not refuse it
-  pub run-ends : answer ≡ ReplayAnswer.Ended (toldRun j)
-  unfolding replayOf toldRun jobRun
-  run-ends = runs .answered ∙ simp (ready .script, le-leb 340 (length old) (omega arith), ready .log)
+module _ (j : Job) (ready : ReadyToRun j) where
+  pub script-fits : scriptFits (j .state .family) (codeOf (j .state)) (marksOf (j .state)) (entryOf (j .state)) ≡ true
+  script-fits = both-left _ (rangesFit (rangesOf j)) (ready .started .fits)
 
-  pub told-is : {told : Replayed} → answer ≡ ReplayAnswer.Ended told → told ≡ toldRun j
-  told-is e = ended-same (sym e ∙ run-ends)
-
-  pub written : new ≡ writtenInto old (jobRun j .writes)
+  pub writes-few : length (jobRun j .writes) ≤ 170
   unfolding jobRun
-  written = runs .lent ∙ ap (lentAfter (j .state .family) (codeOf (j .state)) (marksOf (j .state)) (entryOf (j .state)) (executing (j .state) .addr .0) (executing (j .state) .«data») (flagsWord0 (j .state .flags)) (flagsWord1 (j .state .flags)) (j .state .enable) (clocksOf j) (knownOf j) (valuesOf j) old) run-ends
+  writes-few = slot-room (jobScene j) (executing (j .state)) (j .state .flags) (omega (arith, fits-script _ _ _ _ script-fits .entry-low)) (fullSteps (j .state .family))
 
-  -- which hold the writes
-  pub entries-are : take (2 * toldRun j .writes) new ≡ entriesOf (jobRun j .writes)
-  unfolding toldRun
-  entries-are = ap (take (2 * length (jobRun j .writes))) written ∙ take-at (entriesOf (jobRun j .writes)) (drop (2 * length (jobRun j .writes)) old) (2 * length (jobRun j .writes)) (entries-length (jobRun j .writes))
+  module _ (old new : List ℕ) (answer : RunAnswer) (runs : RunsJob j old new answer) (lent : length old ≡ 340) where
+    -- its run is not refused
+    pub run-ends : answer ≡ RunAnswer.Ended (progressOf (jobRun j))
+    unfolding runAnswerOf jobRun
+    run-ends = runs .answered ∙ simp (script-fits, le-leb 340 (length old) (omega arith), ready .sound .log)
 
-  -- and there are so many
-  pub entries-lie : 2 * toldRun j .writes ≤ length new
-  unfolding toldRun
-  entries-lie = omega (arith, length-take (2 * length (jobRun j .writes)) new, ap length entries-are, entries-length (jobRun j .writes))
+    written : new ≡ writtenInto old (jobRun j .writes)
+    unfolding jobRun
+    written = runs .lent ∙ ap (lentAfter (jobScene j) (executing (j .state)) (j .state .flags) old) run-ends
+
+    entries-are : take (2 * length (jobRun j .writes)) new ≡ entriesOf (jobRun j .writes)
+    entries-are =
+        let n = 2 * length (jobRun j .writes) in
+        ap (take n) written ∙ take-at (entriesOf (jobRun j .writes)) (drop n old) n (entries-length (jobRun j .writes))
+
+    module _ (last : Progress) (e : answer ≡ RunAnswer.Ended last) where
+      last-is : last ≡ progressOf (jobRun j)
+      last-is = ended-same (sym e ∙ run-ends)
+
+      writes-counted : last .writes ≡ length (jobRun j .writes)
+      writes-counted = ap (λ (p : Progress). p .writes) last-is
+
+      -- two entries a write
+      pub entries-lie : 2 * last .writes ≤ length new
+      entries-lie = omega (arith, writes-counted, length-take (2 * length (jobRun j .writes)) new, ap length entries-are, entries-length (jobRun j .writes))
+
+      pub entries-few : last .writes ≤ 170
+      entries-few = omega (arith, writes-counted, writes-few)
+
+      -- the entries used hold the writes
+      pub ran : RanJob j last (take (2 * last .writes) new)
+      ran = record { came = last-is; wrote = ap (λ (n : ℕ). take (2 * n) new) writes-counted ∙ entries-are }

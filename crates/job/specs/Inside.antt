@@ -1,17 +1,15 @@
 -- What private functions cite; no public contract does.
 use Prim.Native.Nat.{ℕ}
 use mathlib.Core.Path.{_≡_}
-use mathlib.Core.Bool.{true}
 use mathlib.Core.List.{List, [], _∷_, _++_}
-use Rattle.flags.specs.Flags.{flagsWord0, flagsWord1}
-use Rattle.log.specs.Validity.{validLog}
-use Rattle.script.specs.Input.{scriptFits}
-use Rattle.run.specs.Replay.{Replays}
-use Rattle.run.specs.declared.answers.ReplayAnswer.{ReplayAnswer}
-use Rattle.records.specs.Job.{CountsFit, clocksOf, knownOf, valuesOf}
+use Rattle.run.specs.Replay.{progressOf, entriesOf, RunsSlot}
+use Rattle.run.specs.declared.answers.Progress.{Progress}
+use Rattle.run.specs.declared.answers.RunAnswer.{RunAnswer}
+use Rattle.records.specs.Reader.{Sound}
+use Rattle.records.specs.Started.{Started, executing}
 use Rattle.records.specs.declared.contents.Job.{Job}
 use Rattle.job.specs.Lines.{writeLine}
-use Rattle.job.specs.Script.{executing, codeOf, marksOf, entryOf}
+use Rattle.job.specs.Script.{jobScene, jobRun}
 
 -- a line for each write in the lent entries: address and data of each
 abbrev pub pairLines : List ℕ → List ℕ
@@ -19,13 +17,16 @@ pairLines [] = []
 pairLines (address ∷ []) = []
 pairLines (address ∷ word ∷ entries) = writeLine address word ++ pairLines entries
 
--- what replay promises when it is asked for a job's run
-abbrev pub RunsJob : Job → List ℕ → List ℕ → ReplayAnswer → Type 0
-RunsJob j old new answer = let s = j .state in
-    Replays (s .family) (codeOf s) (marksOf s) (entryOf s) (executing s .addr .0) (executing s .«data») (flagsWord0 (s .flags)) (flagsWord1 (s .flags)) (s .enable) (clocksOf j) (knownOf j) (valuesOf j) old new answer
+-- what is promised of a job's run
+abbrev pub RunsJob : Job → List ℕ → List ℕ → RunAnswer → Type 0
+RunsJob j old new answer = RunsSlot (jobScene j) (executing (j .state)) (j .state .flags) old new answer
 
--- a log to run over, and a script that fits its family: what was read without fault and then passed has both
+-- what was read without fault
 pub record ReadyToRun (j : Job) : Type 0 where
-  pub fit : CountsFit (j .counts)
-  pub log : validLog (clocksOf j) (knownOf j) (valuesOf j) ≡ true
-  pub script : scriptFits (j .state .family) (codeOf (j .state)) (marksOf (j .state)) (entryOf (j .state)) ≡ true
+  pub sound : Sound j
+  pub started : Started j
+
+-- what a job's run left: how far it came, and its writes as entries
+pub record RanJob (j : Job) (last : Progress) (entries : List ℕ) : Type 0 where
+  pub came : last ≡ progressOf (jobRun j)
+  pub wrote : entries ≡ entriesOf (jobRun j .writes)

@@ -8,21 +8,24 @@ use lib.ListN.{length, take, drop}
 use Rattle.refusals.specs.Number.{faultNumber}
 use Rattle.refusals.specs.declared.refusals.Fault.{Fault}
 use Rattle.verdict.specs.declared.verdicts.Verdict.{Verdict}
-use Rattle.run.specs.declared.answers.Replayed.{Replayed}
+use Rattle.run.specs.Replay.{endingOf, progressOf}
+use Rattle.run.specs.declared.answers.Progress.{Progress}
+use Rattle.execution.specs.Execution.{executingSlot}
+use Rattle.state.specs.Slot.{slotOf, withSlot}
 use Rattle.state.specs.declared.state.State.{State}
 use Rattle.records.specs.Job.{knownOf}
 use Rattle.records.specs.Reader.{readOf}
 use Rattle.records.specs.declared.contents.Job.{Job}
 use Rattle.job.specs.Lines.{refusedLine, familyLine, faultLine, passLine, writeLines, rowLines, endLine, statusLine}
-use Rattle.job.specs.Script.{verdictOf, jobRun, toldRun, stateAfter, statusOf}
+use Rattle.job.specs.Script.{verdictOf, jobRun, stepRun, statusOf}
 
--- how a run ended, and the status then
-abbrev pub lastLines : State → Replayed → List ℕ
-lastLines s told = endLine (told .ending) (told .place) ++ statusLine (statusOf (stateAfter s told))
+-- how a run ended, and the status then: the executing slot and the flags are as the run left them
+abbrev pub lastLines : State → Progress → List ℕ
+lastLines s last = endLine (endingOf (last .slot .mode)) (last .place) ++ statusLine (statusOf (withSlot s (executingSlot s) (last .slot) (last .flags)))
 
 -- of a run: its writes, a line for each row, the end, the status
 unfoldable pub runLines : Job → List ℕ
-runLines j = writeLines (jobRun j .writes) ++ rowLines 0 (knownOf j) ++ lastLines (j .state) (toldRun j)
+runLines j = writeLines (jobRun j .writes) ++ rowLines 0 (knownOf j) ++ lastLines (j .state) (progressOf (jobRun j))
 
 -- a refused script has the verdict alone; a passed one is then run
 abbrev pub verdictLines : Job → Verdict → List ℕ
@@ -36,9 +39,17 @@ jobLines j = familyLine (j .state .family) ++ verdictLines j (verdictOf j)
 unfoldable pub reportOf : List ℕ → List ℕ
 reportOf bytes = let read = readOf bytes in cond (eqb (read .number) 0) (jobLines (read .job)) (refusedLine (read .number) (read .at))
 
+-- what is told of a run is the machine's own: the writes of its steps, how the slot ended and where, and STATUS in the state that the last step returned
+abbrev pub TellsSteps : Job → Type 0
+TellsSteps j = let r = stepRun j in
+    runLines j
+    ≡ writeLines (r .writes) ++ rowLines 0 (knownOf j) ++ (endLine (endingOf (slotOf (r .state) (executingSlot (j .state)) .mode)) (r .place) ++ statusLine (statusOf (r .state)))
+
 -- what is promised of the answer, and of the lent bytes, old and new: the report and then as lent
 pub record Reports (bytes old new : List ℕ) (answer : ℕ) : Type 0 where
   pub answered : answer ≡ length (reportOf bytes)
   pub contents : new ≡ reportOf bytes ++ drop (length (reportOf bytes)) old
   -- so many of the lent bytes can be handed on as a part
   pub counted : (answer ≤ length new) × (answer ≡ length (take answer new))
+  -- of every job without fault, whatever HWSQ_ENABLE and the flags are
+  pub stepped : readOf bytes .number ≡ 0 → TellsSteps (readOf bytes .job)

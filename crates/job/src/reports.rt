@@ -1,15 +1,12 @@
 // The report on a job, whole.
 ghost use mathlib.Core.Path.{_≡_};
-ghost use mathlib.Core.Bool.{true};
 ghost use Prim.Native.Nat.{_≤_};
 ghost use lib.ListN.{length, take};
 ghost use Rattle.text.specs.Put.{Stored};
-ghost use Rattle.log.specs.Validity.{validLog};
 ghost use Rattle.log.specs.Validity.{maxRows};
-ghost use Rattle.records.specs.Job.{CountsFit, clocksOf, knownOf, valuesOf};
 ghost use Rattle.job.specs.Lines.{rowLines};
 ghost use Rattle.job.specs.Report.{lastLines, runLines, jobLines, Reports};
-ghost use Rattle.job.specs.Inside.{ReadyToRun};
+ghost use Rattle.job.specs.Inside.{ReadyToRun, RanJob};
 use crate::lines::put_end;
 use crate::lines::put_family;
 use crate::lines::put_fault;
@@ -18,13 +15,13 @@ use crate::lines::put_refused;
 use crate::lines::put_rows;
 use crate::lines::put_status;
 use crate::lines::put_writes;
-use crate::runs::replay_job;
-use crate::runs::state_after;
+use crate::runs::run_job;
 use crate::runs::status_of;
 use crate::runs::verdict_of;
+use execution::executing_slot;
 use records::Job;
-use run::ReplayAnswer;
-use run::Replayed;
+use run::Progress;
+use run::RunAnswer;
 use state::State;
 use verdict::Verdict;
 
@@ -38,17 +35,15 @@ pub fn report(job: &[u8], out: &mut [u8; 65536]) -> usize
         return put_refused(out, 0, number, read.at);
     }
     let whole = read.job;
-    put_job(out, 0, whole)
+    put_job(out, whole)
 }
 
-// The lines on a job that was read without fault.
-fn put_job(out: &mut [u8; 65536], at: usize, job: Job) -> usize
-    requires { ⌜ CountsFit (job .counts) × (validLog (clocksOf job) (knownOf job) (valuesOf job) ≡ true) ⌝ }
-    ensures { λ r. ⌜ Stored (now (out .entry)) at (jobLines job) r (now (out .exit)) ⌝ }
+// The lines on a job that was read without fault. A passed script is run before the first byte is put.
+fn put_job(out: &mut [u8; 65536], job: Job) -> usize
+    requires { ⌜ ReadyToRun job ⌝ }
+    ensures { λ r. ⌜ Stored (now (out .entry)) 0 (jobLines job) r (now (out .exit)) ⌝ }
     ensures { λ _. ⌜ length (now (out .entry)) ≡ 65536 ⌝ }
 {
-    let family = job.state.family;
-    let a = put_family(out, at, family);
     let verdict = verdict_of(job);
     match verdict {
         Verdict::Pass {
@@ -57,32 +52,34 @@ fn put_job(out: &mut [u8; 65536], at: usize, job: Job) -> usize
             writes,
             clocks,
         } => {
+            // two entries a write, and a script makes at most 170
+            let mut entries = [0u32; replay::MAX_ENTRIES];
+            let answer = run_job(job, &mut entries);
+            let RunAnswer::Ended(last) = answer else {
+                // never: the rows are a log, and the script fits its family
+                return 0;
+            };
+            let a = put_family(out, 0, job.state.family);
             let b = put_pass(out, a, place.0, count, writes, clocks);
-            put_run(out, b, job)
+            let used = 2 * last.writes;
+            put_run(out, b, job, last, &entries[..used])
         }
-        Verdict::Fault(fault, place) => put_fault(out, a, refusals::fault_number(fault), place.0),
+        Verdict::Fault(fault, place) => {
+            let a = put_family(out, 0, job.state.family);
+            put_fault(out, a, refusals::fault_number(fault), place.0)
+        }
     }
 }
 
 // The lines on the run of a passed script.
-fn put_run(out: &mut [u8; 65536], at: usize, job: Job) -> usize
-    requires { ⌜ ReadyToRun job ⌝ }
+fn put_run(out: &mut [u8; 65536], at: usize, job: Job, last: Progress, entries: &[u32]) -> usize
+    requires { ⌜ (job .counts .rows ≤ maxRows) × RanJob job last (now entries) ⌝ }
     ensures { λ r. ⌜ Stored (now (out .entry)) at (runLines job) r (now (out .exit)) ⌝ }
 {
-    // two entries a write, and a script makes at most 170
-    let mut entries = [0u32; replay::MAX_ENTRIES];
-    let answer = replay_job(job, &mut entries);
-    match answer {
-        ReplayAnswer::Ended(told) => {
-            let used = 2 * told.writes;
-            let a = put_writes(out, at, &entries[..used]);
-            let known = job.known;
-            let b = put_known(out, a, known, job.counts.rows);
-            put_last(out, b, job.state, told)
-        }
-        // never: the rows are a log, and a script that passed fits its family
-        ReplayAnswer::Refused(_) => at,
-    }
+    let a = put_writes(out, at, entries);
+    let known = job.known;
+    let b = put_known(out, a, known, job.counts.rows);
+    put_last(out, b, job.state, last)
 }
 
 // A line for each of the first rows of a column.
@@ -94,12 +91,14 @@ fn put_known(out: &mut [u8; 65536], at: usize, known: [u32; 1024], rows: usize) 
 }
 
 // How the run ended, and what STATUS shows then.
-fn put_last(out: &mut [u8; 65536], at: usize, state: State, told: Replayed) -> usize
-    ensures { λ r. ⌜ Stored (now (out .entry)) at (lastLines state told) r (now (out .exit)) ⌝ }
+fn put_last(out: &mut [u8; 65536], at: usize, state: State, last: Progress) -> usize
+    ensures { λ r. ⌜ Stored (now (out .entry)) at (lastLines state last) r (now (out .exit)) ⌝ }
 {
-    let ending = told.ending;
-    let place = told.place;
-    let a = put_end(out, at, ending, place);
-    let last = state_after(state, told);
-    put_status(out, a, status_of(last))
+    let slot = last.slot;
+    let flags = last.flags;
+    let place = last.place;
+    let mode = slot.mode;
+    let a = put_end(out, at, replay::ending_of(mode), place);
+    let after = state::with_slot(state, executing_slot(state), slot, flags);
+    put_status(out, a, status_of(after))
 }

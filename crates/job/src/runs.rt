@@ -1,15 +1,16 @@
-// The script that a job starts: its audit, its run, and the state after that.
+// The script that a job starts: its audit and its run; and STATUS.
 ghost use mathlib.Core.Path.{_≡_};
 ghost use Prim.Native.Nat.{_*_, _≤_};
 ghost use lib.ListN.{take};
 ghost use Rattle.families.specs.Family.{codeSize};
-ghost use Rattle.flags.specs.Flags.{flagsWord0, flagsWord1};
 ghost use Rattle.verdict.specs.Auditor.{auditOf};
-ghost use Rattle.run.specs.Replay.{Replays};
+ghost use Rattle.run.specs.Replay.{RunsSlot};
+ghost use Rattle.run.specs.SlotRun.{sceneFor};
+ghost use Rattle.log.specs.Log.{logOf};
 ghost use Rattle.log.specs.Validity.{maxRows};
 ghost use Rattle.script.specs.Input.{maxRanges};
 ghost use Rattle.records.specs.Job.{CountsFit};
-ghost use Rattle.job.specs.Script.{verdictOf, modeOf, stateAfter, wordOf, statusOf};
+ghost use Rattle.job.specs.Script.{verdictOf, wordOf, statusOf};
 ghost use Rattle.job.specs.Inside.{RunsJob};
 use execution::executing_slot;
 use flags::Flags;
@@ -17,10 +18,7 @@ use isa::CodeAddress;
 use isa::MmioAddress;
 use records::Job;
 use registers::Reading;
-use run::Ending;
-use run::ReplayAnswer;
-use run::Replayed;
-use state::Mode;
+use run::RunAnswer;
 use state::Slot;
 use state::State;
 use verdict::Verdict;
@@ -72,7 +70,7 @@ pub(crate) fn verdict_of(job: Job) -> Verdict
 }
 
 // The run of the script in a family's part of these bytes, over the first rows of these columns.
-fn replay_code(
+fn run_code(
     family: u8,
     code: [u8; 512],
     marks: [u8; 512],
@@ -84,23 +82,17 @@ fn replay_code(
     values: [u32; 1024],
     rows: usize,
     writes: &mut [u32],
-) -> ReplayAnswer
+) -> RunAnswer
     requires { ⌜ rows ≤ maxRows ⌝ }
-    ensures { λ r. ⌜ Replays family (take (codeSize family) code) (take (codeSize family) marks) (slot .ip .0) (slot .addr .0) (slot .«data») (flagsWord0 flags) (flagsWord1 flags) enable (take rows clocks) (take rows known) (take rows values) (now (writes .entry)) (now (writes .exit)) r ⌝ }
+    ensures { λ r. ⌜ RunsSlot (sceneFor family (take (codeSize family) code) (take (codeSize family) marks) enable (logOf (take rows clocks) (take rows known) (take rows values))) slot flags (now (writes .entry)) (now (writes .exit)) r ⌝ }
 {
     let size = families::code_size(family);
-    let addr = slot.addr;
-    let flags_0 = flags::flags_word_0(flags);
-    let flags_1 = flags::flags_word_1(flags);
-    replay::replay(
+    replay::run(
         family,
         &code[..size],
         &marks[..size],
-        slot.ip,
-        addr,
-        slot.data,
-        flags_0,
-        flags_1,
+        slot,
+        flags,
         enable,
         &clocks[..rows],
         &known[..rows],
@@ -110,7 +102,7 @@ fn replay_code(
 }
 
 // The run of the job's script; its writes go into the lent entries.
-pub(crate) fn replay_job(job: Job, writes: &mut [u32]) -> ReplayAnswer
+pub(crate) fn run_job(job: Job, writes: &mut [u32]) -> RunAnswer
     requires { ⌜ CountsFit (job .counts) ⌝ }
     ensures { λ r. ⌜ RunsJob job (now (writes .entry)) (now (writes .exit)) r ⌝ }
 {
@@ -122,7 +114,7 @@ pub(crate) fn replay_job(job: Job, writes: &mut [u32]) -> ReplayAnswer
     let clocks = job.clocks;
     let known = job.known;
     let values = job.values;
-    replay_code(
+    run_code(
         state.family,
         code,
         marks,
@@ -135,37 +127,6 @@ pub(crate) fn replay_job(job: Job, writes: &mut [u32]) -> ReplayAnswer
         job.counts.rows,
         writes,
     )
-}
-
-// What the slot does after such an ending.
-fn mode_of(ending: Ending) -> Mode
-    ensures { λ r. ⌜ r ≡ modeOf ending ⌝ }
-{
-    match ending {
-        Ending::Exit => Mode::Idle,
-        Ending::Log => Mode::Waiting,
-        Ending::Poke => Mode::Blocked,
-        Ending::Hang => Mode::Hung,
-        Ending::Stop => Mode::Running,
-    }
-}
-
-// The state with the executing slot and the flags as the run left them.
-pub(crate) fn state_after(state: State, told: Replayed) -> State
-    ensures { λ r. ⌜ r ≡ stateAfter state told ⌝ }
-{
-    let name = executing_slot(state);
-    let ending = told.ending;
-    let ip = told.ip;
-    let addr = told.addr;
-    let slot = Slot {
-        mode: mode_of(ending),
-        ip,
-        addr,
-        data: told.data,
-    };
-    let flags = flags::flags_from_words(told.flags_0, told.flags_1);
-    state::with_slot(state, name, slot, flags)
 }
 
 fn word_of(reading: Reading) -> u32

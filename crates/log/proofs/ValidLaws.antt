@@ -8,6 +8,7 @@ use native.Mathlib.Omega.{arith}
 use lib.Dec.{leb, eqb}
 use lib.ListN.{length, getD, List·getD-eq-default}
 use borrow.Author.Tests.{leb-true, eqb-true, lt-ltb, le-ltb, eq-eqb}
+use Rattle.log.specs.Log.{Log}
 use Rattle.log.specs.Validity.{rowsInRange, validLog, validPlace}
 use Rattle.log.specs.declared.place.Place.{Place}
 
@@ -22,34 +23,34 @@ row-in-range (c ∷ clocks) e zero h =
     (leb-true 1 c (here .0), leb-true c (2 ^ 48) (here .1))
 row-in-range (c ∷ clocks) e (suc row) h = row-in-range clocks (and-eq-true-iff (leb 1 c && leb c (2 ^ 48)) (rowsInRange clocks) .0 e .1) row (omega arith)
 
-record Rows (clocks known values : List ℕ) : Type 0 where
-  few : length clocks ≤ 1024
-  known-rows : length known ≡ length clocks
-  value-rows : length values ≡ length clocks
-  in-range : (row : ℕ) → row < length clocks → (1 ≤ getD clocks row 0) × (getD clocks row 0 ≤ 2 ^ 48)
+record Rows (log : Log) : Type 0 where
+  few : length (log .clocks) ≤ 1024
+  known-rows : length (log .known) ≡ length (log .clocks)
+  value-rows : length (log .values) ≡ length (log .clocks)
+  in-range : (row : ℕ) → row < length (log .clocks) → (1 ≤ getD (log .clocks) row 0) × (getD (log .clocks) row 0 ≤ 2 ^ 48)
 
-valid-rows : (clocks known values : List ℕ) → validLog clocks known values ≡ true → Rows clocks known values
+valid-rows : (log : Log) → validLog log ≡ true → Rows log
 unfolding validLog
-valid-rows clocks known values e =
-    let one = and-eq-true-iff (leb (length clocks) 1024) _ .0 e in
-    let two = and-eq-true-iff (eqb (length known) (length clocks)) _ .0 (one .1) in
-    let three = and-eq-true-iff (eqb (length values) (length clocks)) (rowsInRange clocks) .0 (two .1) in
+valid-rows log e =
+    let one = and-eq-true-iff (leb (length (log .clocks)) 1024) _ .0 e in
+    let two = and-eq-true-iff (eqb (length (log .known)) (length (log .clocks))) _ .0 (one .1) in
+    let three = and-eq-true-iff (eqb (length (log .values)) (length (log .clocks))) (rowsInRange (log .clocks)) .0 (two .1) in
     record {
-      few = leb-true (length clocks) 1024 (one .0);
-      known-rows = eqb-true (length known) (length clocks) (two .0);
-      value-rows = eqb-true (length values) (length clocks) (three .0);
-      in-range = row-in-range clocks (three .1);
+      few = leb-true (length (log .clocks)) 1024 (one .0);
+      known-rows = eqb-true (length (log .known)) (length (log .clocks)) (two .0);
+      value-rows = eqb-true (length (log .values)) (length (log .clocks)) (three .0);
+      in-range = row-in-range (log .clocks) (three .1);
     }
 
-module _ (clocks known values : List ℕ) (valid : validLog clocks known values ≡ true) where
-  pub rows-most : length clocks ≤ 1024
-  rows-most = valid-rows clocks known values valid .few
+module _ (log : Log) (valid : validLog log ≡ true) where
+  pub rows-most : length (log .clocks) ≤ 1024
+  rows-most = valid-rows log valid .few
 
-  pub row-most : (row : ℕ) → getD clocks row 0 ≤ 2 ^ 48
+  pub row-most : (row : ℕ) → getD (log .clocks) row 0 ≤ 2 ^ 48
   row-most row =
-      elim (decLt row (length clocks)) as (λ _. getD clocks row 0 ≤ 2 ^ 48) [
-        | yes h ↦ valid-rows clocks known values valid .in-range row h .1
-        | no h ↦ rw (List·getD-eq-default clocks 0 {n = row} (omega arith)) (omega arith)
+      elim (decLt row (length (log .clocks))) as (λ _. getD (log .clocks) row 0 ≤ 2 ^ 48) [
+        | yes h ↦ valid-rows log valid .in-range row h .1
+        | no h ↦ rw (List·getD-eq-default (log .clocks) 0 {n = row} (omega arith)) (omega arith)
       ]
 
 -- ---- the places that lie in a log
@@ -78,9 +79,10 @@ module _ (clocks : List ℕ) where
         ]
 
 -- a row's start lies in a valid log, and so does the end
-pub valid-row-start : (clocks known values : List ℕ) → validLog clocks known values ≡ true → (row : ℕ) → row ≤ length clocks → validPlace clocks (record { row = row; used = 0 }) ≡ true
-valid-row-start clocks known values valid row h =
-    elim (decLt row (length clocks)) as (λ _. validPlace clocks (record { row = row; used = 0 }) ≡ true) [
-      | yes l ↦ valid-in-row clocks row 0 l (omega (arith, valid-rows clocks known values valid .in-range row l .0))
-      | no l ↦ let e : row ≡ length clocks = omega arith in rw e (valid-at-end clocks)
+pub valid-row-start : (log : Log) → validLog log ≡ true → (row : ℕ) → row ≤ length (log .clocks)
+    → validPlace (log .clocks) (record { row = row; used = 0 }) ≡ true
+valid-row-start log valid row h =
+    elim (decLt row (length (log .clocks))) as (λ _. validPlace (log .clocks) (record { row = row; used = 0 }) ≡ true) [
+      | yes l ↦ valid-in-row (log .clocks) row 0 l (omega (arith, valid-rows log valid .in-range row l .0))
+      | no l ↦ let e : row ≡ length (log .clocks) = omega arith in rw e (valid-at-end (log .clocks))
     ]

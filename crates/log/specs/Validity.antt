@@ -4,6 +4,7 @@ use mathlib.Core.Bool.{Bool, true, cond, _&&_}
 use mathlib.Core.List.{List, [], _∷_}
 use lib.ListN.{length, getD}
 use lib.Dec.{leb, ltb, eqb}
+use Rattle.log.specs.Log.{Log}
 use Rattle.log.specs.declared.place.Place.{Place}
 
 -- a row has 1 to 2^48 clocks
@@ -20,9 +21,10 @@ abbrev pub maxRows : ℕ
 maxRows = 1024
 
 -- at most 1,024 rows, columns of equal length, clocks in range
-unfoldable pub validLog : List ℕ → List ℕ → List ℕ → Bool
-validLog clocks known values =
-    leb (length clocks) maxRows && (eqb (length known) (length clocks) && (eqb (length values) (length clocks) && rowsInRange clocks))
+unfoldable pub validLog : Log → Bool
+validLog log =
+    let rows = length (log .clocks) in
+    leb rows maxRows && (eqb (length (log .known)) rows && (eqb (length (log .values)) rows && rowsInRange (log .clocks)))
 
 -- in a row that has clocks left, or at the log's end: the row count, none used
 unfoldable pub validPlace : List ℕ → Place → Bool

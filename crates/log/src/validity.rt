@@ -1,5 +1,6 @@
 // Which columns are a log, and which places lie in it.
 ghost use mathlib.Core.Path.{_≡_};
+ghost use Rattle.log.specs.Log.{logOf};
 ghost use Rattle.log.specs.Validity.{clocksInRange, rowsInRange, validLog, validPlace};
 use crate::place::Place;
 
@@ -31,7 +32,7 @@ fn rows_in_range(clocks: &[u64]) -> bool
 
 // Whether the columns are a log: at most 1,024 rows, columns of equal length, clocks in range.
 pub fn valid_log<'a>(clocks: &'a [u64], known: &'a [u32], values: &'a [u32]) -> bool
-    ensures { λ r. ⌜ r ≡ validLog (now (clocks .entry)) (now (known .entry)) (now (values .entry)) ⌝ }
+    ensures { λ r. ⌜ r ≡ validLog (logOf (now (clocks .entry)) (now (known .entry)) (now (values .entry))) ⌝ }
 {
     if MAX_ROWS < clocks.len() {
         return false;

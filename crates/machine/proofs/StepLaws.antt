@@ -1,7 +1,7 @@
 -- What a step is, what it shows of its slot, what it keeps, and what it passes. Assumes nothing.
 use Prim.Native.Nat.{ℕ}
 use mathlib.Core.Path.{_≡_, refl, sym, subst}
-use mathlib.Core.Bool.{Bool, true, false, cond, _&&_, and-false}
+use mathlib.Core.Bool.{true, false, _&&_}
 use mathlib.Core.List.{List}
 use native.Mathlib.Omega.{arith}
 use borrow.Author.Tests.{lt-ltb}
@@ -11,14 +11,14 @@ use Rattle.isa.proofs.Tests.{both-right, cond-elim}
 use Rattle.refusals.specs.declared.refusals.Unreadable.{Unreadable}
 use Rattle.fetch.specs.Fetch.{fetchOf, pastOpcode}
 use Rattle.fetch.proofs.Places.{unknown-within}
+use Rattle.log.specs.Log.{Log}
 use Rattle.log.specs.Validity.{validLog, validPlace}
 use Rattle.log.specs.declared.place.Place.{Place}
 use Rattle.state.specs.Slot.{hasSlot, isRunning, slotOf}
 use Rattle.machine.specs.Step.{unmoved, afterTurn, advanceOf, stepOf}
-use Rattle.turn.specs.Turn.{sameTurn, unfetchedAt, unfetched, turnOf}
-use Rattle.machine.specs.Promises.{Keeps, Passes, Advances, Steps, effectNumber, stepRefusal}
+use Rattle.turn.specs.Turn.{unfetchedAt, unfetched, turnOf}
+use Rattle.machine.specs.Promises.{Keeps, Passes, Steps, effectNumber, stepRefusal}
 use Rattle.flags.specs.declared.flags.Flags.{Flags}
-use Rattle.state.specs.declared.slots.Mode.{Mode}
 use Rattle.state.specs.declared.slots.SlotName.{SlotName}
 use Rattle.state.specs.declared.slots.Slot.{Slot}
 use Rattle.state.specs.declared.state.State.{State}
@@ -32,15 +32,16 @@ use Rattle.machine.proofs.Taken.{turn-taken}
 -- ---- what a step is
 
 -- the fetch at a slot's IP
-abbrev pub fetchedAt : State → SlotName → Decoded
+abbrev fetchedAt : State → SlotName → Decoded
 fetchedAt s name = fetchOf (s .family) (s .code) (s .marks) (slotOf s name .ip .0)
 
-module _ (s : State) (name : SlotName) (clocks known values : List ℕ) (p : Place) where
+module _ (s : State) (name : SlotName) (log : Log) (p : Place) where
   -- the turn that the slot takes if it runs
-  abbrev pub turnAt : Turn
-  turnAt = turnOf (s .family) (s .enable) (slotOf s name) (s .flags) clocks known values p (fetchedAt s name)
+  abbrev turnAt : Turn
+  turnAt = turnOf (s .family) (s .enable) (slotOf s name) (s .flags) log p (fetchedAt s name)
 
-  advance-elim : (P : Stepped → Type 0) → P (unmoved s p Effect.Nothing) → (isRunning (slotOf s name .mode) ≡ true → P (afterTurn s name turnAt)) → P (advanceOf s name clocks known values p)
+  advance-elim : (P : Stepped → Type 0) → P (unmoved s p Effect.Nothing) → (isRunning (slotOf s name .mode) ≡ true → P (afterTurn s name turnAt))
+      → P (advanceOf s name log p)
   unfolding advanceOf
   advance-elim P still turn =
       cond-elim P (hasSlot (s .family) name && isRunning (slotOf s name .mode))
@@ -48,62 +49,13 @@ module _ (s : State) (name : SlotName) (clocks known values : List ℕ) (p : Pla
       (λ _. still)
 
   -- a step is refused, or nothing, or a turn of a slot that runs
-  pub step-elim : (P : Stepped → Type 0) → ((why : Unsteppable) → P (unmoved s p (Effect.Refused why))) → P (unmoved s p Effect.Nothing)
-      → (isRunning (slotOf s name .mode) ≡ true → P (afterTurn s name turnAt)) → P (stepOf s name clocks known values p)
+  step-elim : (P : Stepped → Type 0) → ((why : Unsteppable) → P (unmoved s p (Effect.Refused why))) → P (unmoved s p Effect.Nothing)
+      → (isRunning (slotOf s name .mode) ≡ true → P (afterTurn s name turnAt)) → P (stepOf s name log p)
   unfolding stepOf
   step-elim P refused still turn =
       cond-elim P (knownFamily (s .family))
-      (λ _. cond-elim P (validLog clocks known values && validPlace clocks p) (λ _. advance-elim P still turn) (λ _. refused Unsteppable.Log))
+      (λ _. cond-elim P (validLog log && validPlace (log .clocks) p) (λ _. advance-elim P still turn) (λ _. refused Unsteppable.Log))
       (λ _. refused Unsteppable.Family)
-
-  module _ (family : knownFamily (s .family) ≡ true) (log : validLog clocks known values ≡ true) (place : validPlace clocks p ≡ true) where
-    -- a slot that runs takes a turn on what it fetched
-    pub step-turns : hasSlot (s .family) name ≡ true → slotOf s name .mode ≡ Mode.Running → stepOf s name clocks known values p ≡ afterTurn s name turnAt
-    unfolding stepOf advanceOf
-    step-turns h m = simp (family, log, place, h, m)
-
-    -- a slot in any other mode is left alone
-    pub step-rests : isRunning (slotOf s name .mode) ≡ false → stepOf s name clocks known values p ≡ unmoved s p Effect.Nothing
-    unfolding stepOf advanceOf
-    step-rests m = simp (family, log, place, m, and-false)
-
--- ---- what a step shows of its slot, from what it reads of its state
-
-abbrev pub seenOf : SlotName → Stepped → Turn
-seenOf name t = record { slot = slotOf (t .state) name; flags = t .state .flags; place = t .place; effect = t .effect; waited = t .waited; searched = t .searched }
-
--- the turn of a slot that the family has or lacks, where the fetch at its IP answers so
-unfoldable pub slotStep : Bool → List ℕ → List ℕ → List ℕ → ℕ → Bool → Slot → Flags → Place → Decoded → Turn
-slotStep has clocks known values family enable slot flags p fetched =
-    cond (knownFamily family)
-    (cond (validLog clocks known values && validPlace clocks p)
-    (cond (has && isRunning (slot .mode))
-    (turnOf family enable slot flags clocks known values p fetched)
-    (sameTurn slot flags p Effect.Nothing))
-    (sameTurn slot flags p (Effect.Refused Unsteppable.Log)))
-    (sameTurn slot flags p (Effect.Refused Unsteppable.Family))
-
-seen-after : (s : State) (name : SlotName) (t : Turn) → seenOf name (afterTurn s name t) ≡ t
-seen-after s SlotName.A t = refl
-seen-after s SlotName.B t = refl
-
-module _ (s : State) (name : SlotName) (clocks known values : List ℕ) (p : Place) where
-  abbrev shown : Turn
-  shown = slotStep (hasSlot (s .family) name) clocks known values (s .family) (s .enable) (slotOf s name) (s .flags) p (fetchedAt s name)
-
-  pub step-seen : seenOf name (stepOf s name clocks known values p) ≡ shown
-  unfolding stepOf advanceOf slotStep
-  step-seen =
-      cond-elim P (knownFamily (s .family))
-      (λ u. cond-elim P (validLog clocks known values && validPlace clocks p)
-      (λ v. cond-elim P (hasSlot (s .family) name && isRunning (slotOf s name .mode))
-      (λ w. simp (u, v, w) (seen-after s name (turnAt s name clocks known values p)))
-      (λ w. simp (u, v, w)))
-      (λ v. simp (u, v)))
-      (λ u. simp u)
-    where
-      P : Stepped → Type 0
-      P t = seenOf name t ≡ shown
 
 -- ---- what a step keeps and what it passes
 
@@ -114,67 +66,61 @@ keeps-turn : (s : State) (name : SlotName) (t : Turn) → Keeps name s (afterTur
 keeps-turn s SlotName.A t = record { family = refl; code = refl; marks = refl; enable = refl; override = refl; entries = refl; entries-high = refl; other = refl }
 keeps-turn s SlotName.B t = record { family = refl; code = refl; marks = refl; enable = refl; override = refl; entries = refl; entries-high = refl; other = refl }
 
-module _ (s : State) (name : SlotName) (clocks known values : List ℕ) (p : Place) where
+module _ (s : State) (name : SlotName) (log : Log) (p : Place) where
   -- what a step may come to
   record Law (t : Stepped) : Type 0 where
     keeps : Keeps name s (t .state)
-    passes : Passes clocks known values p t
+    passes : Passes log p t
 
   still-law : (effect : Effect) → Law (unmoved s p effect)
-  still-law effect = record { keeps = keeps-all name s; passes = record { stays = λ log v. v; clocked = λ log. omega arith } }
+  still-law effect = record { keeps = keeps-all name s; passes = record { stays = λ valid v. v; clocked = λ valid. omega arith } }
 
-  turn-law : Law (afterTurn s name (turnAt s name clocks known values p))
+  turn-law : Law (afterTurn s name (turnAt s name log p))
   turn-law = record {
-    keeps = keeps-turn s name (turnAt s name clocks known values p);
+    keeps = keeps-turn s name (turnAt s name log p);
     passes = record {
-      stays = λ log v. turn-place clocks known values log (s .family) (s .enable) (slotOf s name) (s .flags) p (fetchedAt s name) v;
-      clocked = λ log. turn-clocks clocks known values log (s .family) (s .enable) (slotOf s name) (s .flags) p (fetchedAt s name);
+      stays = λ valid v. turn-place log valid (s .family) (s .enable) (slotOf s name) (s .flags) p (fetchedAt s name) v;
+      clocked = λ valid. turn-clocks log valid (s .family) (s .enable) (slotOf s name) (s .flags) p (fetchedAt s name);
     };
   }
 
   -- the two ways of `advanceOf`, from what the code finds
   module _ (slot : Slot) (is : slot ≡ slotOf s name) where
-    pub advance-still : (hasSlot (s .family) name && isRunning (slot .mode)) ≡ false → unmoved s p Effect.Nothing ≡ advanceOf s name clocks known values p
+    pub advance-still : (hasSlot (s .family) name && isRunning (slot .mode)) ≡ false → unmoved s p Effect.Nothing ≡ advanceOf s name log p
     unfolding advanceOf
     advance-still h = let g : (hasSlot (s .family) name && isRunning (slotOf s name .mode)) ≡ false = rw is at h in simp g
 
     pub advance-turn : (hasSlot (s .family) name && isRunning (slot .mode)) ≡ true → (found : Decoded) → found ≡ fetchOf (s .family) (s .code) (s .marks) (slot .ip .0)
-        → (t : Turn) → t ≡ turnOf (s .family) (s .enable) slot (s .flags) clocks known values p found → afterTurn s name t ≡ advanceOf s name clocks known values p
+        → (t : Turn) → t ≡ turnOf (s .family) (s .enable) slot (s .flags) log p found → afterTurn s name t ≡ advanceOf s name log p
     unfolding advanceOf
     advance-turn h found f t e =
         let g : (hasSlot (s .family) name && isRunning (slotOf s name .mode)) ≡ true = rw is at h in
         simp g (rw (e, f, is))
 
-  advance-law : Law (advanceOf s name clocks known values p)
-  advance-law = advance-elim s name clocks known values p Law (still-law Effect.Nothing) (λ _. turn-law)
-
-  pub advances : {t : Stepped} → t ≡ advanceOf s name clocks known values p → Advances s name clocks known values p t
-  advances e = let law = subst Law (sym e) advance-law in record { answered = e; keeps = law .keeps; passes = law .passes }
-
-  advance-number : effectNumber (advanceOf s name clocks known values p .effect) ≡ 0
+  advance-number : effectNumber (advanceOf s name log p .effect) ≡ 0
   advance-number =
-      advance-elim s name clocks known values p (λ (t : Stepped). effectNumber (t .effect) ≡ 0) refl
-      (λ _. turn-taken (s .family) (s .enable) (slotOf s name) (s .flags) clocks known values p (fetchedAt s name))
+      advance-elim s name log p (λ (t : Stepped). effectNumber (t .effect) ≡ 0) refl
+      (λ _. turn-taken (s .family) (s .enable) (slotOf s name) (s .flags) log p (fetchedAt s name))
 
-  step-law : Law (stepOf s name clocks known values p)
-  step-law = step-elim s name clocks known values p Law (λ why. still-law (Effect.Refused why)) (still-law Effect.Nothing) (λ _. turn-law)
+  step-law : Law (stepOf s name log p)
+  step-law = step-elim s name log p Law (λ why. still-law (Effect.Refused why)) (still-law Effect.Nothing) (λ _. turn-law)
 
-  step-number : effectNumber (stepOf s name clocks known values p .effect) ≡ stepRefusal (s .family) clocks known values p
+  step-number : effectNumber (stepOf s name log p .effect) ≡ stepRefusal (s .family) log p
   unfolding stepOf stepRefusal
   step-number =
       cond-elim P (knownFamily (s .family))
-      (λ u. cond-elim P (validLog clocks known values && validPlace clocks p) (λ v. simp (u, v) advance-number) (λ v. simp (u, v)))
+      (λ u. cond-elim P (validLog log && validPlace (log .clocks) p) (λ v. simp (u, v) advance-number) (λ v. simp (u, v)))
       (λ u. simp u)
     where
       P : Stepped → Type 0
-      P t = effectNumber (t .effect) ≡ stepRefusal (s .family) clocks known values p
+      P t = effectNumber (t .effect) ≡ stepRefusal (s .family) log p
 
-  pub steps : {t : Stepped} → t ≡ stepOf s name clocks known values p → Steps s name clocks known values p t
+  pub steps : {t : Stepped} → t ≡ stepOf s name log p → Steps s name log p t
   steps e =
       let law = subst Law (sym e) step-law in
       record {
         answered = e;
-        numbered = subst (λ (t : Stepped). effectNumber (t .effect) ≡ stepRefusal (s .family) clocks known values p) (sym e) step-number;
+        numbered = subst (λ (t : Stepped). effectNumber (t .effect) ≡ stepRefusal (s .family) log p) (sym e) step-number;
         keeps = law .keeps;
         passes = law .passes;
       }

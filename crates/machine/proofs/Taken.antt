@@ -2,9 +2,9 @@
 use Prim.Native.Nat.{ℕ}
 use mathlib.Core.Path.{_≡_, refl}
 use mathlib.Core.Bool.{Bool, true, false}
-use mathlib.Core.List.{List}
 use Rattle.isa.specs.declared.reader.Decoded.{Decoded}
 use Rattle.refusals.specs.declared.refusals.Unreadable.{Unreadable}
+use Rattle.log.specs.Log.{Log}
 use Rattle.log.specs.declared.place.Place.{Place}
 use Rattle.actions.specs.Action.{actionOf}
 use Rattle.turn.specs.Turn.{effectOf, performOf, unfetched, turnOf}
@@ -29,9 +29,9 @@ unfetched-taken family slot flags p Unreadable.Unknown = refl
 unfetched-taken family slot flags p Unreadable.Short = refl
 unfetched-taken family slot flags p Unreadable.NotUploaded = refl
 
-pub turn-taken : (family : ℕ) (enable : Bool) (slot : Slot) (flags : Flags) (clocks known values : List ℕ) (p : Place) (fetched : Decoded)
-    → effectNumber (turnOf family enable slot flags clocks known values p fetched .effect) ≡ 0
+pub turn-taken : (family : ℕ) (enable : Bool) (slot : Slot) (flags : Flags) (log : Log) (p : Place) (fetched : Decoded)
+    → effectNumber (turnOf family enable slot flags log p fetched .effect) ≡ 0
 unfolding performOf
-turn-taken family enable slot flags clocks known values p (Decoded.Instruction instruction n) =
+turn-taken family enable slot flags log p (Decoded.Instruction instruction n) =
     action-taken (actionOf instruction) enable (slot .addr .0) (slot .«data»)
-turn-taken family enable slot flags clocks known values p (Decoded.Refused why) = unfetched-taken family slot flags p why
+turn-taken family enable slot flags log p (Decoded.Refused why) = unfetched-taken family slot flags p why

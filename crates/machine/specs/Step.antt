@@ -1,15 +1,12 @@
 -- One step of one slot (01, "Steps and time" and "Other refusals").
-use Prim.Native.Nat.{ℕ}
 use mathlib.Core.Bool.{cond, _&&_}
-use mathlib.Core.List.{List}
 use Rattle.families.specs.Family.{knownFamily}
-use Rattle.isa.specs.declared.addresses.CodeAddress.{CodeAddress}
 use Rattle.fetch.specs.Fetch.{fetchOf}
+use Rattle.log.specs.Log.{Log}
 use Rattle.log.specs.Validity.{validLog, validPlace}
 use Rattle.log.specs.declared.place.Place.{Place}
 use Rattle.state.specs.Slot.{hasSlot, isRunning, slotOf, withSlot}
 use Rattle.turn.specs.Turn.{turnOf}
-use Rattle.state.specs.declared.slots.Slot.{Slot}
 use Rattle.state.specs.declared.slots.SlotName.{SlotName}
 use Rattle.state.specs.declared.state.State.{State}
 use Rattle.machine.specs.declared.steps.Stepped.{Stepped}
@@ -27,18 +24,18 @@ afterTurn s name t =
     record { state = withSlot s name (t .slot) (t .flags); place = t .place; effect = t .effect; waited = t .waited; searched = t .searched }
 
 -- one instruction is fetched at IP and done; a slot that is idle, waiting, blocked or hung, or that the family lacks, is left alone
-unfoldable pub advanceOf : State → SlotName → List ℕ → List ℕ → List ℕ → Place → Stepped
-advanceOf s name clocks known values p =
+unfoldable pub advanceOf : State → SlotName → Log → Place → Stepped
+advanceOf s name log p =
     let slot = slotOf s name in
     cond (hasSlot (s .family) name && isRunning (slot .mode))
-    (afterTurn s name (turnOf (s .family) (s .enable) slot (s .flags) clocks known values p (fetchOf (s .family) (s .code) (s .marks) (slot .ip .0))))
+    (afterTurn s name (turnOf (s .family) (s .enable) slot (s .flags) log p (fetchOf (s .family) (s .code) (s .marks) (slot .ip .0))))
     (unmoved s p Effect.Nothing)
 
 -- 9 an unknown family, then 15 columns that are no log or a place outside it
-unfoldable pub stepOf : State → SlotName → List ℕ → List ℕ → List ℕ → Place → Stepped
-stepOf s name clocks known values p =
+unfoldable pub stepOf : State → SlotName → Log → Place → Stepped
+stepOf s name log p =
     cond (knownFamily (s .family))
-    (cond (validLog clocks known values && validPlace clocks p)
-    (advanceOf s name clocks known values p)
+    (cond (validLog log && validPlace (log .clocks) p)
+    (advanceOf s name log p)
     (unmoved s p (Effect.Refused Unsteppable.Log)))
     (unmoved s p (Effect.Refused Unsteppable.Family))

@@ -2,5 +2,4 @@
 mod steps;
 
 pub use steps::Stepped;
-pub use steps::advance;
 pub use steps::step;

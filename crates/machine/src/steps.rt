@@ -2,10 +2,11 @@
 ghost use mathlib.Core.Path.{_≡_};
 ghost use mathlib.Core.Bool.{_&&_};
 ghost use Rattle.state.specs.Slot.{hasSlot, isRunning};
-ghost use Rattle.machine.specs.Step.{afterTurn};
+ghost use Rattle.machine.specs.Step.{afterTurn, advanceOf};
 ghost use Rattle.machine.specs.Step.{unmoved as Step·unmoved};
+ghost use Rattle.log.specs.Log.{logOf};
 ghost use Rattle.log.specs.Validity.{validLog, validPlace};
-ghost use Rattle.machine.specs.Promises.{Advances, Steps};
+ghost use Rattle.machine.specs.Promises.{Steps};
 use actions::action_of;
 use isa::CodeAddress;
 use isa::Decoded;
@@ -33,9 +34,8 @@ pub struct Stepped {
     pub searched: u64,
 }
 
-// One step of the named slot, whatever the log is. On an idle, waiting, blocked or hung slot, and on one that the family
-// lacks, it changes nothing.
-pub fn advance<'a>(
+// One step of the named slot, if the family is known and the place lies in a log.
+pub fn step<'a>(
     state: State,
     name: SlotName,
     clocks: &'a [u64],
@@ -43,7 +43,28 @@ pub fn advance<'a>(
     values: &'a [u32],
     at: Place,
 ) -> Stepped
-    ensures { λ r. ⌜ Advances state name (now (clocks .entry)) (now (known .entry)) (now (values .entry)) at r ⌝ }
+    ensures { λ r. ⌜ Steps state name (logOf (now (clocks .entry)) (now (known .entry)) (now (values .entry))) at r ⌝ }
+{
+    if !families::known_family(state.family) {
+        return unmoved(state, at, Effect::Refused(Unsteppable::Family));
+    }
+    if !in_log(clocks, known, values, at) {
+        return unmoved(state, at, Effect::Refused(Unsteppable::Log));
+    }
+    advance(state, name, clocks, known, values, at)
+}
+
+// One step of the named slot, whatever the log is. On an idle, waiting, blocked or hung slot, and on one that the family
+// lacks, it changes nothing.
+fn advance<'a>(
+    state: State,
+    name: SlotName,
+    clocks: &'a [u64],
+    known: &'a [u32],
+    values: &'a [u32],
+    at: Place,
+) -> Stepped
+    ensures { λ r. ⌜ r ≡ advanceOf state name (logOf (now (clocks .entry)) (now (known .entry)) (now (values .entry))) at ⌝ }
 {
     let slot = slot_of(state, name);
     let mode = slot.mode;
@@ -74,26 +95,6 @@ pub fn advance<'a>(
     after_turn(state, name, turn)
 }
 
-// One step of the named slot, if the family is known and the place lies in a log.
-pub fn step<'a>(
-    state: State,
-    name: SlotName,
-    clocks: &'a [u64],
-    known: &'a [u32],
-    values: &'a [u32],
-    at: Place,
-) -> Stepped
-    ensures { λ r. ⌜ Steps state name (now (clocks .entry)) (now (known .entry)) (now (values .entry)) at r ⌝ }
-{
-    if !families::known_family(state.family) {
-        return unmoved(state, at, Effect::Refused(Unsteppable::Family));
-    }
-    if !in_log(clocks, known, values, at) {
-        return unmoved(state, at, Effect::Refused(Unsteppable::Log));
-    }
-    advance(state, name, clocks, known, values, at)
-}
-
 fn can_run(family: u8, name: SlotName, mode: Mode) -> bool
     ensures { λ r. ⌜ r ≡ (hasSlot family name && isRunning mode) ⌝ }
 {
@@ -101,7 +102,7 @@ fn can_run(family: u8, name: SlotName, mode: Mode) -> bool
 }
 
 fn in_log<'a>(clocks: &'a [u64], known: &'a [u32], values: &'a [u32], at: Place) -> bool
-    ensures { λ r. ⌜ r ≡ (validLog (now (clocks .entry)) (now (known .entry)) (now (values .entry)) && validPlace (now (clocks .entry)) at) ⌝ }
+    ensures { λ r. ⌜ r ≡ (validLog (logOf (now (clocks .entry)) (now (known .entry)) (now (values .entry))) && validPlace (now (clocks .entry)) at) ⌝ }
 {
     log::valid_log(clocks, known, values) && log::valid_place(clocks, at)
 }

@@ -12,7 +12,7 @@ use Rattle.isa.proofs.Tests.{both-left, both-right}
 use Rattle.state.specs.declared.state.State.{State}
 use Rattle.records.specs.Inside.{HasRoom}
 use Rattle.records.specs.Records.{kindOf}
-use Rattle.records.specs.Refusals.{isCutShort, isTooMany, writeNumber, isBadRow, endsIdle, Test, firstOf, listing, refusalOf}
+use Rattle.records.specs.Refusals.{isCutShort, isTooMany, isBadRange, writeNumber, isBadRow, endsIdle, Test, firstOf, listing, refusalOf}
 use Rattle.records.specs.Words.{byteAt}
 use Rattle.records.specs.declared.contents.Counts.{Counts}
 
@@ -39,6 +39,7 @@ all-pass (test ∷ later) h e =
 pub record Clear (rest : List ℕ) (counts : Counts) (s : State) : Type 0 where
   pub whole : 1 + kindOf (byteAt rest 0) .body ≤ length rest
   pub room : HasRoom (byteAt rest 0) counts
+  pub range : isBadRange rest ≡ false
   pub row : isBadRow rest ≡ false
   pub end : endsIdle rest s ≡ false
 
@@ -49,6 +50,7 @@ clear rest counts s e =
     record {
       whole = ltb-false _ _ (p .1 .0);
       room = leb-false _ _ (p .1 .1 .1 .0);
+      range = p .1 .1 .1 .1 .1 .0;
       row = p .1 .1 .1 .1 .1 .1 .1 .1 .0;
       end = p .1 .1 .1 .1 .1 .1 .1 .1 .1 .1 .0;
     }

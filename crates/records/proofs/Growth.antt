@@ -1,26 +1,30 @@
 -- What a job holds after one more record. Assumes nothing.
-use Prim.Native.Nat.{ℕ, _+_, _≤_, _<_}
-use mathlib.Core.Path.{_≡_, refl, ap, subst, sym, _∙_}
-use mathlib.Core.Bool.{Bool, true, false, cond, not, _&&_}
-use mathlib.Core.List.{List, [], _∷_, _++_}
+use Prim.Native.Nat.{ℕ, suc, _*_, _≤_, _<_}
+use mathlib.Core.Path.{_≡_, refl, subst, _∙_}
+use mathlib.Core.Bool.{Bool, true, false, not, _&&_, false≢true}
+use mathlib.Core.List.{List, [], _∷_, _++_, append-assoc}
 use native.Mathlib.Numerals.{add-one}
 use native.Mathlib.Omega.{arith}
-use lib.Dec.{leb, eqb}
+use lib.Dec.{leb, ltb, eqb}
 use lib.ListN.{length, take, set, length-set, length-replicate}
 use lib.Seq.{take-suc-set, length-take-le}
-use borrow.Author.Tests.{eqb-true, eq-eqb, le-leb, not-false}
+use borrow.Author.Tests.{eqb-true, eqb-false, eq-eqb, ne-eqb, le-leb, ltb-false, not-false}
 use Rattle.isa.proofs.Tests.{cond-elim, both-left, both-right}
-use Rattle.registers.specs.Access.{freshOf, writeOf}
+use Rattle.registers.proofs.HostMade.{HostMade, fresh-made, write-made}
 use Rattle.log.specs.Validity.{clocksInRange, rowsInRange, validLog}
+use Rattle.script.specs.Input.{rangesPaired}
 use Rattle.state.specs.declared.state.State.{State}
-use Rattle.records.specs.Inside.{HasRoom}
-use Rattle.records.specs.Job.{CountsFit, countOf, oneMore, counted, emptyJob, withState, withRange, withRow, withContent, afterRecord, clocksOf, knownOf, valuesOf}
+use Rattle.records.specs.Inside.{HasRoom, stateAfter}
+use Rattle.records.specs.Job.{CountsFit, countOf, oneMore, counted, emptyJob, withState, withRange, withRow, withContent, afterRecord}
+use Rattle.records.specs.Job.{rangesOf, clocksOf, knownOf, valuesOf}
 use Rattle.records.specs.Reader.{Sound}
 use Rattle.records.specs.Records.{kindOf}
-use Rattle.records.specs.Refusals.{isBadRow}
+use Rattle.records.specs.Refusals.{isBadRange, isBadRow}
 use Rattle.records.specs.Words.{byteAt, wordAt, longAt}
 use Rattle.records.specs.declared.contents.Counts.{Counts}
 use Rattle.records.specs.declared.contents.Job.{Job}
+use Rattle.records.proofs.Clear.{Clear}
+use Rattle.records.proofs.Storing.{row-stored, range-stored, state-stored}
 
 -- ---- counts
 
@@ -33,7 +37,7 @@ module _ (kind : ℕ) (counts : Counts) (room : HasRoom kind counts) where
   room-at : (wanted : ℕ) → kind ≡ wanted → HasRoom wanted counts
   room-at wanted e = subst (λ (k : ℕ). HasRoom k counts) e room
 
-  pub counts-fit : CountsFit counts → CountsFit (counted kind counts)
+  counts-fit : CountsFit counts → CountsFit (counted kind counts)
   unfolding countOf kindOf
   counts-fit fit = record {
     families = more-fits 4 kind (counts .families) 1 (fit .families) (room-at 4);
@@ -50,88 +54,165 @@ module _ (kind : ℕ) (counts : Counts) (room : HasRoom kind counts) where
   unfolding countOf kindOf
   row-room e = room-at 1 e
 
--- ---- the columns' lengths
+-- one more of its own kind, and of no other
+one-more : (wanted kind n : ℕ) → kind ≡ wanted → oneMore wanted kind n ≡ suc n
+unfolding oneMore
+one-more wanted kind n is = rw (eq-eqb kind wanted is) (add-one n)
 
-pub record Columns (j : Job) : Type 0 where
+none-more : (wanted kind n : ℕ) → (kind ≡ wanted → ⊥) → oneMore wanted kind n ≡ n
+unfolding oneMore
+none-more wanted kind n other = rw (ne-eqb kind wanted other)
+
+-- ---- a record's content, as it is stored
+
+content-elim : (P : Job → Type 0) (kind : ℕ) (rest : List ℕ) (j : Job)
+    → (kind ≡ 1 → P (withRow j (longAt rest 1) (wordAt rest 9) (wordAt rest 13)))
+    → (kind ≡ 3 → P (withRange j (wordAt rest 1) (wordAt rest 5)))
+    → ((kind ≡ 1 → ⊥) → (kind ≡ 3 → ⊥) → P (withState j (stateAfter kind rest (j .state))))
+    → P (withContent kind rest j)
+content-elim P kind rest j row range state = by (eqb kind 1) (eqb kind 3) refl refl
+  where
+    by : (r g : Bool) → eqb kind 1 ≡ r → eqb kind 3 ≡ g → P (withContent kind rest j)
+    by true g e f = let is = eqb-true kind 1 e in subst P (row-stored kind rest rest j refl is refl refl refl) (row is)
+    by false true e f = let is = eqb-true kind 3 f in subst P (range-stored kind rest rest j refl is refl) (range is)
+    by false false e f =
+        let no-row = eqb-false kind 1 e in
+        let no-range = eqb-false kind 3 f in
+        subst P (state-stored kind rest rest j refl no-row no-range refl) (state no-row no-range)
+
+-- ---- the arrays' lengths
+
+pub record Sizes (j : Job) : Type 0 where
+  pub bounds : length (j .bounds) ≡ 128
   pub clocks : length (j .clocks) ≡ 1024
   pub known : length (j .known) ≡ 1024
   pub values : length (j .values) ≡ 1024
 
-row-columns : (j : Job) (clocks known values : ℕ) → Columns j → Columns (withRow j clocks known values)
-row-columns j clocks known values h = record {
-  clocks = length-set (j .clocks) (j .counts .rows) clocks ∙ h .clocks;
-  known = length-set (j .known) (j .counts .rows) known ∙ h .known;
-  values = length-set (j .values) (j .counts .rows) values ∙ h .values;
-}
+module _ (j : Job) (size : Sizes j) where
+  same-sizes : (i : Job) → length (i .bounds) ≡ length (j .bounds) → length (i .clocks) ≡ length (j .clocks)
+      → length (i .known) ≡ length (j .known) → length (i .values) ≡ length (j .values) → Sizes i
+  same-sizes i b c k v = record { bounds = b ∙ size .bounds; clocks = c ∙ size .clocks; known = k ∙ size .known; values = v ∙ size .values }
 
-content-columns : (kind : ℕ) (rest : List ℕ) (j : Job) → Columns j → Columns (withContent kind rest j)
-unfolding withContent
-content-columns kind rest j h =
-    cond-elim Columns (eqb kind 4) (λ _. record { clocks = h .clocks; known = h .known; values = h .values })
-    (λ _. cond-elim Columns (eqb kind 3) (λ _. record { clocks = h .clocks; known = h .known; values = h .values })
-    (λ _. cond-elim Columns (eqb kind 2) (λ _. record { clocks = h .clocks; known = h .known; values = h .values })
-    (λ _. cond-elim Columns (eqb kind 1) (λ _. row-columns j (longAt rest 1) (wordAt rest 9) (wordAt rest 13) h) (λ _. h))))
-
-pub columns-after : (rest : List ℕ) (j : Job) → Columns j → Columns (afterRecord rest j)
-unfolding afterRecord
-columns-after rest j h = let k = content-columns (byteAt rest 0) rest j h in record { clocks = k .clocks; known = k .known; values = k .values }
-
-pub empty-columns : Columns emptyJob
-unfolding emptyJob
-empty-columns = record { clocks = length-replicate {A = ℕ} 1024 0; known = length-replicate {A = ℕ} 1024 0; values = length-replicate {A = ℕ} 1024 0 }
+  content-sizes : (kind : ℕ) (rest : List ℕ) → Sizes (withContent kind rest j)
+  content-sizes kind rest =
+      let n = j .counts .rows in
+      content-elim Sizes kind rest j
+      (λ _. same-sizes _ refl (length-set (j .clocks) n _) (length-set (j .known) n _) (length-set (j .values) n _))
+      (λ _. same-sizes _ (simp length-set) refl refl refl)
+      (λ _ _. same-sizes _ refl refl refl refl)
 
 -- ---- rows
 
-both-true : (a b : Bool) → a ≡ true → b ≡ true → (a && b) ≡ true
-both-true a b p q = rw (p, q)
-
-range-more : (cs : List ℕ) (c : ℕ) → rowsInRange cs ≡ true → clocksInRange c ≡ true → rowsInRange (cs ++ (c ∷ [])) ≡ true
-range-more [] c h e = both-true (clocksInRange c) true e refl
-range-more (x ∷ cs) c h e = both-true (clocksInRange x) (rowsInRange (cs ++ (c ∷ []))) (both-left (clocksInRange x) (rowsInRange cs) h) (range-more cs c (both-right (clocksInRange x) (rowsInRange cs) h) e)
-
--- a record that is no row leaves the clocks as they are
-kept : (a b c d : Bool) (j : Job) (s t : State) (first last n k v : ℕ) → d ≡ false
-    → cond a (withState j s) (cond b (withRange j first last) (cond c (withState j t) (cond d (withRow j n k v) j))) .clocks ≡ j .clocks
-kept true b c d j s t first last n k v e = refl
-kept false true c d j s t first last n k v e = refl
-kept false false true d j s t first last n k v e = refl
-kept false false false true j s t first last n k v e = absurd (let z : _≡_ {A = ℕ} 0 1 = cc in let w : ⊥ = omega arith in w)
-kept false false false false j s t first last n k v e = refl
+row-more : (cs : List ℕ) (c : ℕ) → rowsInRange cs ≡ true → clocksInRange c ≡ true → rowsInRange (cs ++ (c ∷ [])) ≡ true
+row-more [] c h e = rw e
+row-more (x ∷ cs) c h e =
+    rw (both-left (clocksInRange x) (rowsInRange cs) h, row-more cs c (both-right (clocksInRange x) (rowsInRange cs) h) e)
 
 good-row : (kind : ℕ) (clocks : ℕ) → kind ≡ 1 → (eqb kind 1 && not (clocksInRange clocks)) ≡ false → clocksInRange clocks ≡ true
 good-row kind clocks e h = not-false (clocksInRange clocks) (rw (eq-eqb kind 1 e) at h)
 
-module _ (kind : ℕ) (rest : List ℕ) (j : Job) (size : Columns j) (room : HasRoom kind (j .counts)) (good : (eqb kind 1 && not (clocksInRange (longAt rest 1))) ≡ false) where
-  rows-after : rowsInRange (clocksOf j) ≡ true → rowsInRange (take (oneMore 1 kind (j .counts .rows)) (withContent kind rest j .clocks)) ≡ true
-  unfolding withContent oneMore
-  rows-after h = go (eqb kind 1) refl
+module _ (kind : ℕ) (rest : List ℕ) (j : Job) (size : Sizes j) (room : HasRoom kind (j .counts)) where
+  rows-after : (eqb kind 1 && not (clocksInRange (longAt rest 1))) ≡ false → rowsInRange (clocksOf j) ≡ true
+      → rowsInRange (take (oneMore 1 kind (j .counts .rows)) (withContent kind rest j .clocks)) ≡ true
+  rows-after good h = content-elim InRange kind rest j more (λ is. same (λ e. omega arith)) (λ other _. same other)
     where
-      go : (b : Bool) → eqb kind 1 ≡ b → rowsInRange (take (oneMore 1 kind (j .counts .rows)) (withContent kind rest j .clocks)) ≡ true
-      go true e =
-          let is : kind ≡ 1 = eqb-true kind 1 e in
-          let more : take (j .counts .rows + 1) (set (j .clocks) (j .counts .rows) (longAt rest 1)) ≡ take (j .counts .rows) (j .clocks) ++ (longAt rest 1 ∷ []) =
-          ap (λ (m : ℕ). take m (set (j .clocks) (j .counts .rows) (longAt rest 1))) (add-one (j .counts .rows)) ∙ take-suc-set (j .clocks) (j .counts .rows) (longAt rest 1) (omega (arith, size .clocks, row-room kind (j .counts) room is)) in
-          rw (is, more) (range-more (clocksOf j) (longAt rest 1) h (good-row kind (longAt rest 1) is good))
-      go false e = rw (kept (eqb kind 4) (eqb kind 3) (eqb kind 2) (eqb kind 1) j (freshOf (byteAt rest 1) .state) (writeOf (j .state) (record { 0 = wordAt rest 1 }) (wordAt rest 5) .state) (wordAt rest 1) (wordAt rest 5) (longAt rest 1) (wordAt rest 9) (wordAt rest 13) e, e) h
+      InRange : Job → Type 0
+      InRange i = rowsInRange (take (oneMore 1 kind (j .counts .rows)) (i .clocks)) ≡ true
 
--- and after the record
-pub rows-fit : (rest : List ℕ) (j : Job) → Columns j → HasRoom (byteAt rest 0) (j .counts) → isBadRow rest ≡ false → rowsInRange (clocksOf j) ≡ true → rowsInRange (clocksOf (afterRecord rest j)) ≡ true
-unfolding afterRecord isBadRow
-rows-fit rest j size room good h = rows-after (byteAt rest 0) rest j size room good h
+      same : (kind ≡ 1 → ⊥) → InRange j
+      same other = rw (none-more 1 kind (j .counts .rows) other) h
 
--- ---- the columns are as long as there are rows
+      more : kind ≡ 1 → InRange (withRow j (longAt rest 1) (wordAt rest 9) (wordAt rest 13))
+      more is =
+          let n = j .counts .rows in
+          rw (one-more 1 kind n is, take-suc-set (j .clocks) n (longAt rest 1) (omega (arith, size .clocks, row-room kind (j .counts) room is)))
+          (row-more (clocksOf j) (longAt rest 1) h (good-row kind (longAt rest 1) is good))
 
-pub log-holds : (j : Job) → Columns j → CountsFit (j .counts) → rowsInRange (clocksOf j) ≡ true → validLog (clocksOf j) (knownOf j) (valuesOf j) ≡ true
+-- ---- ranges
+
+pair-more : (ranges : List ℕ) (first last : ℕ) → rangesPaired ranges ≡ true → first ≤ last → rangesPaired (ranges ++ (first ∷ last ∷ [])) ≡ true
+pair-more [] first last h l = rw (le-leb first last l)
+pair-more (a ∷ []) first last h l = absurd (false≢true h)
+pair-more (a ∷ b ∷ ranges) first last h l =
+    rw (both-left (leb a b) (rangesPaired ranges) h, pair-more ranges first last (both-right (leb a b) (rangesPaired ranges) h) l)
+
+two-more : (l : List ℕ) (i a b : ℕ) → suc i < length l → take (suc (suc i)) (set (set l i a) (suc i) b) ≡ take i l ++ (a ∷ b ∷ [])
+two-more l i a b h =
+    take-suc-set (set l i a) (suc i) b (omega (arith, length-set l i a)) ∙ rw (take-suc-set l i a (omega arith)) (append-assoc (take i l) (a ∷ []) (b ∷ []))
+
+good-range : (kind first last : ℕ) → kind ≡ 3 → (eqb kind 3 && ltb last first) ≡ false → first ≤ last
+good-range kind first last is h = ltb-false last first (rw (eq-eqb kind 3 is) at h)
+
+module _ (kind : ℕ) (rest : List ℕ) (j : Job) (size : Sizes j) (room : HasRoom kind (j .counts)) where
+  ranges-after : (eqb kind 3 && ltb (wordAt rest 5) (wordAt rest 1)) ≡ false → rangesPaired (rangesOf j) ≡ true
+      → rangesPaired (take (2 * oneMore 3 kind (j .counts .ranges)) (withContent kind rest j .bounds)) ≡ true
+  ranges-after good h = content-elim Paired kind rest j (λ is. same (λ e. omega arith)) more (λ _ other. same other)
+    where
+      Paired : Job → Type 0
+      Paired i = rangesPaired (take (2 * oneMore 3 kind (j .counts .ranges)) (i .bounds)) ≡ true
+
+      same : (kind ≡ 3 → ⊥) → Paired j
+      same other = rw (none-more 3 kind (j .counts .ranges) other) h
+
+      more : kind ≡ 3 → Paired (withRange j (wordAt rest 1) (wordAt rest 5))
+      more is =
+          let n = j .counts .ranges in
+          let two : 2 * oneMore 3 kind n ≡ suc (suc (2 * n)) = omega (arith, one-more 3 kind n is) in
+          let room : suc (2 * n) < length (j .bounds) = omega (arith, size .bounds, range-room kind (j .counts) room is) in
+          rw (two, add-one (2 * n), two-more (j .bounds) (2 * n) (wordAt rest 1) (wordAt rest 5) room)
+          (pair-more (rangesOf j) (wordAt rest 1) (wordAt rest 5) h (good-range kind (wordAt rest 1) (wordAt rest 5) is good))
+
+-- ---- all of it
+
+-- what every job holds, however many of its records were read
+pub record Going (j : Job) : Type 0 where
+  pub fit : CountsFit (j .counts)
+  pub size : Sizes j
+  pub rows : rowsInRange (clocksOf j) ≡ true
+  pub paired : rangesPaired (rangesOf j) ≡ true
+  pub made : HostMade (j .state)
+
+pub going-empty : Going emptyJob
+unfolding emptyJob
+going-empty = record {
+  fit = record { families = omega arith; ranges = omega arith; writes = omega arith; rows = omega arith };
+  size = record {
+    bounds = length-replicate {A = ℕ} 128 0;
+    clocks = length-replicate {A = ℕ} 1024 0;
+    known = length-replicate {A = ℕ} 1024 0;
+    values = length-replicate {A = ℕ} 1024 0;
+  };
+  rows = refl;
+  paired = refl;
+  made = fresh-made 0;
+}
+
+made-after : (kind : ℕ) (rest : List ℕ) (s : State) → HostMade s → HostMade (stateAfter kind rest s)
+unfolding stateAfter
+made-after kind rest s made =
+    cond-elim HostMade (eqb kind 4) (λ _. fresh-made (byteAt rest 1))
+    (λ _. cond-elim HostMade (eqb kind 2) (λ _. write-made s (record { 0 = wordAt rest 1 }) (wordAt rest 5) made) (λ _. made))
+
+-- a record without fault
+pub going-on : (rest : List ℕ) (j : Job) → Clear rest (j .counts) (j .state) → Going j → Going (afterRecord rest j)
+unfolding afterRecord isBadRow isBadRange
+going-on rest j clear g =
+    let kind = byteAt rest 0 in
+    record {
+      fit = counts-fit kind (j .counts) (clear .room) (g .fit);
+      size = same-sizes (withContent kind rest j) (content-sizes j (g .size) kind rest) _ refl refl refl refl;
+      rows = rows-after kind rest j (g .size) (clear .room) (clear .row) (g .rows);
+      paired = ranges-after kind rest j (g .size) (clear .room) (clear .range) (g .paired);
+      made = content-elim (λ (i : Job). HostMade (i .state)) kind rest j (λ _. g .made) (λ _. g .made)
+          (λ _ _. made-after kind rest (j .state) (g .made));
+    }
+
+-- its rows are a log, whose columns are as long as there are rows
+pub going-sound : (j : Job) → Going j → Sound j
 unfolding validLog
-log-holds j size fit h =
-    let lc : length (clocksOf j) ≡ j .counts .rows = length-take-le (j .counts .rows) (j .clocks) (omega (arith, size .clocks, fit .rows)) in
-    let lk : length (knownOf j) ≡ j .counts .rows = length-take-le (j .counts .rows) (j .known) (omega (arith, size .known, fit .rows)) in
-    let lv : length (valuesOf j) ≡ j .counts .rows = length-take-le (j .counts .rows) (j .values) (omega (arith, size .values, fit .rows)) in
-    both-true (leb (length (clocksOf j)) 1024) _ (le-leb (length (clocksOf j)) 1024 (omega (arith, lc, fit .rows)))
-    (both-true (eqb (length (knownOf j)) (length (clocksOf j))) _ (eq-eqb (length (knownOf j)) (length (clocksOf j)) (lk ∙ sym lc))
-    (both-true (eqb (length (valuesOf j)) (length (clocksOf j))) (rowsInRange (clocksOf j)) (eq-eqb (length (valuesOf j)) (length (clocksOf j)) (lv ∙ sym lc)) h))
-
--- nothing read yet
-pub empty-sound : Sound emptyJob
-unfolding emptyJob validLog
-empty-sound = record { fit = record { families = omega arith; ranges = omega arith; writes = omega arith; rows = omega arith }; log = refl }
+going-sound j g =
+    let n = j .counts .rows in
+    let lc : length (clocksOf j) ≡ n = length-take-le n (j .clocks) (omega (arith, g .size .clocks, g .fit .rows)) in
+    let lk : length (knownOf j) ≡ n = length-take-le n (j .known) (omega (arith, g .size .known, g .fit .rows)) in
+    let lv : length (valuesOf j) ≡ n = length-take-le n (j .values) (omega (arith, g .size .values, g .fit .rows)) in
+    record { fit = g .fit; log = rw (lc, lk, lv, le-leb n 1024 (g .fit .rows), eq-eqb n n refl, g .rows) }

@@ -1,4 +1,5 @@
 pub mod Clear
 pub mod Growth
 pub mod Reading
+pub mod Starting
 pub mod Storing

@@ -8,9 +8,10 @@ use lib.ListN.{length}
 use Rattle.registers.specs.Access.{freshOf, writeOf}
 use Rattle.state.specs.declared.state.State.{State}
 use Rattle.records.specs.Job.{countOf, emptyJob}
-use Rattle.records.specs.Reader.{readIn, Sound, Started}
+use Rattle.records.specs.Reader.{readIn, Sound}
 use Rattle.records.specs.Records.{family, hostWrite, kindOf}
 use Rattle.records.specs.Refusals.{writeNumber, endsIdle, refusalOf}
+use Rattle.records.specs.Started.{Started}
 use Rattle.records.specs.Words.{byteAt, wordAt}
 use Rattle.records.specs.declared.contents.Counts.{Counts}
 use Rattle.records.specs.declared.reader.JobRead.{JobRead}
@@ -34,4 +35,4 @@ Refuses rest counts written idle answer = (s : State) → written ≡ writeNumbe
 pub record RecordsRead (bytes : List ℕ) (answer : JobRead) : Type 0 where
   pub answered : answer ≡ readIn (suc (length bytes)) bytes 0 emptyJob
   pub sound : Sound (answer .job)
-  pub started : Started answer
+  pub started : answer .number ≡ 0 → Started (answer .job)

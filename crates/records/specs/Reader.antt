@@ -5,11 +5,11 @@ use mathlib.Core.Bool.{true, cond}
 use mathlib.Core.List.{List}
 use lib.Dec.{ltb, eqb}
 use lib.ListN.{length, drop}
-use Rattle.records.specs.Job.{emptyJob, afterRecord, CountsFit, clocksOf, knownOf, valuesOf}
+use Rattle.records.specs.Job.{emptyJob, afterRecord, CountsFit, logIn}
 use Rattle.log.specs.Validity.{validLog}
-use Rattle.execution.specs.Execution.{someSlotExecutes}
 use Rattle.records.specs.Records.{end, kindOf}
 use Rattle.records.specs.Refusals.{refusalOf}
+use Rattle.records.specs.Started.{Started}
 use Rattle.records.specs.Words.{byteAt}
 use Rattle.records.specs.declared.contents.Job.{Job}
 use Rattle.records.specs.declared.reader.JobRead.{JobRead}
@@ -40,14 +40,11 @@ pub record Sound (j : Job) : Type 0 where
   -- no more records of a kind than a job may have
   pub fit : CountsFit (j .counts)
   -- its rows are a log
-  pub log : validLog (clocksOf j) (knownOf j) (valuesOf j) ≡ true
-
--- a job without fault has a slot executing at its end
-abbrev pub Started : JobRead → Type 0
-Started answer = answer .number ≡ 0 → someSlotExecutes (answer .job .state) ≡ true
+  pub log : validLog (logIn j) ≡ true
 
 -- what reading promises of its answer
 pub record JobReads (bytes : List ℕ) (answer : JobRead) : Type 0 where
   pub answered : answer ≡ readOf bytes
   pub sound : Sound (answer .job)
-  pub started : Started answer
+  -- a job without fault starts a script
+  pub started : answer .number ≡ 0 → Started (answer .job)

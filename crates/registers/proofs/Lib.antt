@@ -1,3 +1,4 @@
 pub mod RegisterLaws
 pub mod AccessLaws
 pub mod BackLaws
+pub mod HostMade

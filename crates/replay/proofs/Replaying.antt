@@ -1,44 +1,28 @@
 -- The replay loop against the run of its steps. Assumes nothing.
 use Prim.Native.Nat.{ℕ, zero, suc, _+_, _-_, _*_, _^_, _≤_, _<_}
 use mathlib.Core.Path.{_≡_, refl, sym, ap, _∙_}
-use mathlib.Core.Bool.{Bool, true, false}
+use mathlib.Core.Bool.{true, false}
 use mathlib.Core.List.{List, [], _∷_, _++_}
 use native.Mathlib.Omega.{arith}
-use lib.ListN.{length, take, drop, length-append, length-drop, List·getD-append}
+use lib.ListN.{length, take, drop, length-append, length-drop}
 use lib.Seq.{sets, sets-eq, take-at, drop-append-add, drop-drop}
-use Rattle.families.specs.Family.{knownFamily}
-use Rattle.isa.specs.declared.addresses.CodeAddress.{CodeAddress}
-use Rattle.isa.specs.declared.addresses.MmioAddress.{MmioAddress}
-use Rattle.refusals.specs.declared.refusals.Unreadable.{Unreadable}
 use Rattle.fetch.specs.Fetch.{fetchOf}
-use Rattle.log.specs.Validity.{validLog, validPlace}
-use Rattle.log.specs.declared.place.Place.{Place}
+use Rattle.log.specs.Validity.{validLog}
 use Rattle.waits.proofs.LeftLaws.{left-most}
-use Rattle.state.specs.Slot.{isRunning, slotOf}
-use Rattle.machine.specs.Step.{afterTurn}
+use Rattle.state.specs.Slot.{isRunning}
 use Rattle.turn.specs.Turn.{turnOf}
 use Rattle.flags.specs.declared.flags.Flags.{Flags}
-use Rattle.state.specs.declared.slots.Mode.{Mode}
 use Rattle.state.specs.declared.slots.Slot.{Slot}
-use Rattle.state.specs.declared.slots.SlotName.{SlotName}
-use Rattle.state.specs.declared.state.State.{State}
-use Rattle.machine.specs.declared.steps.Stepped.{Stepped}
-use Rattle.refusals.specs.declared.refusals.Unsteppable.{Unsteppable}
 use Rattle.turn.specs.declared.turn.Effect.{Effect}
 use Rattle.turn.specs.declared.turn.Turn.{Turn}
-use Rattle.script.specs.Input.{scriptFits}
-use Rattle.run.specs.Run.{Run, Write, begun, wroteBy, fetchedBy, noted, nextStep, runFor}
-use Rattle.run.specs.Replay.{replayState, entriesOf, writtenInto, fullSteps, replayedRun}
-use Rattle.replay.specs.Progress.{progressOf, progressAfter}
-use Rattle.replay.specs.declared.replays.Progress.{Progress}
-use Rattle.state.proofs.SlotLaws.{has-a}
-use Rattle.machine.proofs.StepLaws.{step-turns, step-rests}
-use Rattle.run.proofs.Room.{replay-room}
-use Rattle.run.proofs.RunClocks.{run-clocks}
-use Rattle.run.proofs.Runs.{next-promises, run-elim, run-snoc, run-family, run-place}
-use Rattle.script.proofs.Scripts.{fits-script}
-use Rattle.run.proofs.Settled.{settled-more}
-use Rattle.run.proofs.Filled.{filled-fetches}
+use Rattle.run.specs.Run.{Write, wroteBy, fetchedBy}
+use Rattle.run.specs.SlotRun.{Scene, SlotRun, slotBegun, tookTurn, turnFrom, nextTurn, slotRunFor}
+use Rattle.run.specs.Replay.{entriesOf, writtenInto, fullSteps, fullSlotRun, progressOf}
+use Rattle.run.specs.declared.answers.Progress.{Progress}
+use Rattle.run.proofs.Room.{slot-room}
+use Rattle.run.proofs.SlotRuns.{slot-snoc, slot-clocks}
+use Rattle.run.proofs.Settled.{settled-more, rest-settled}
+use Rattle.replay.specs.Progress.{progressAfter}
 
 -- ---- effects
 
@@ -94,150 +78,82 @@ module _ (lent : List ℕ) (ws : List Write) where
 
 -- ---- one turn
 
-progress-noted : (r : Run) (t : Turn) → progressOf (noted r (afterTurn (r .state) SlotName.A t)) ≡ progressAfter (progressOf r) t
-progress-noted r t =
-    ap (λ (u : ℕ). with-used u) (omega (arith, length-append (r .writes) (wroteBy (t .effect))))
-  where
-    with-used : ℕ → Progress
-    with-used u = record { slot = t .slot; flags = t .flags; place = t .place; steps = r .count + fetchedBy (t .effect); used = u; waited = r .waits + t .waited; searched = r .ewaits + t .searched }
+progress-took : (r : SlotRun) (t : Turn) → progressOf (tookTurn r t) ≡ progressAfter (progressOf r) t
+progress-took r t = rw length-append refl
 
-runs : (m : Mode) → isRunning m ≡ true → m ≡ Mode.Running
-runs Mode.Idle e = cc
-runs Mode.Running e = refl
-runs Mode.Waiting e = cc
-runs Mode.Blocked e = cc
-runs Mode.Hung e = cc
-
-module _ (family : ℕ) (code marks : List ℕ) (entry addr word flags0 flags1 : ℕ) (enable : Bool) (clocks known values : List ℕ) where
-  abbrev pub start : State
-  start = replayState family code marks entry addr word flags0 flags1 enable
-
-  abbrev pub run : ℕ → Run
-  run n = runFor SlotName.A clocks known values n (begun start)
+module _ (x : Scene) (slot : Slot) (flags : Flags) where
+  abbrev pub run : ℕ → SlotRun
+  run n = slotRunFor x n (slotBegun slot flags)
 
   -- the turn that a progress asks for
-  abbrev pub turnFrom : Progress → Turn
-  turnFrom p = turnOf family enable (p .slot) (p .flags) clocks known values (p .place) (fetchOf family code marks (p .slot .ip .0))
+  abbrev pub turnOn : Progress → Turn
+  turnOn p = turnOf (x .family) (x .enable) (p .slot) (p .flags) (x .log) (p .place) (fetchOf (x .family) (x .code) (x .marks) (p .slot .ip .0))
 
-  module _ (fits : scriptFits family code marks entry ≡ true) (log : validLog clocks known values ≡ true) where
-    -- what no step changes
-    record Kept (r : Run) : Type 0 where
-      code-kept : r .state .code ≡ start .code
-      marks-kept : r .state .marks ≡ start .marks
-      enable-kept : r .state .enable ≡ enable
+  run-next : (n : ℕ) → isRunning (run n .slot .mode) ≡ true → run (suc n) ≡ tookTurn (run n) (turnFrom x (run n))
+  run-next n m = slot-snoc x n (slotBegun slot flags) ∙ ap (tookTurn (run n)) (let e : nextTurn x (run n) ≡ turnFrom x (run n) = rw m refl in e)
 
-    kept : (n : ℕ) → Kept (run n)
-    kept n =
-        run-elim SlotName.A clocks known values Kept
-        (λ r k. let next = next-promises SlotName.A clocks known values r .keeps in
-        record { code-kept = next .code ∙ k .code-kept; marks-kept = next .marks ∙ k .marks-kept; enable-kept = next .enable ∙ k .enable-kept })
-        n (begun start) (record { code-kept = refl; marks-kept = refl; enable-kept = refl })
+  -- a slot that does not run has come to its end
+  pub run-rests : (n : ℕ) → isRunning (run n .slot .mode) ≡ false → n ≤ fullSteps (x .family) → run n ≡ fullSlotRun x slot flags
+  run-rests n m h =
+      let left = fullSteps (x .family) - n in
+      let all : n + left ≡ fullSteps (x .family) = omega arith in
+      sym (settled-more x n left (slotBegun slot flags) (rest-settled x (run n) m)) ∙ ap run all
 
-    family-known : knownFamily family ≡ true
-    family-known = fits-script family code marks entry fits .known
+  count-small : (n : ℕ) → run n .count ≤ n
+  unfolding slotRunFor
+  count-small zero = omega arith
+  count-small (suc n) =
+      let e = ap (λ (r : SlotRun). r .count) (slot-snoc x n (slotBegun slot flags)) in
+      omega (arith, e, count-small n, fetched-small (nextTurn x (run n) .effect))
 
-    -- the turn of a state that was kept is the one that its progress asks for
-    same-turn : (r : Run) → r .state .family ≡ family → Kept r
-        → turnOf (r .state .family) (r .state .enable) (slotOf (r .state) SlotName.A) (r .state .flags) clocks known values (r .place) (fetchOf (r .state .family) (r .state .code) (r .state .marks) (slotOf (r .state) SlotName.A .ip .0))
-        ≡ turnFrom (progressOf r)
-    same-turn r f k =
-        let slot = slotOf (r .state) SlotName.A in
-        let at = slot .ip .0 in
-        ap (λ (x : ℕ). turnOf x (r .state .enable) slot (r .state .flags) clocks known values (r .place) (fetchOf x (r .state .code) (r .state .marks) at)) f
-        ∙ ap (λ (x : Bool). turnOf family x slot (r .state .flags) clocks known values (r .place) (fetchOf family (r .state .code) (r .state .marks) at)) (k .enable-kept)
-        ∙ ap (λ (x : List ℕ). turnOf family enable slot (r .state .flags) clocks known values (r .place) (fetchOf family x (r .state .marks) at)) (k .code-kept)
-        ∙ ap (λ (x : List ℕ). turnOf family enable slot (r .state .flags) clocks known values (r .place) (fetchOf family (start .code) x at)) (k .marks-kept)
-        ∙ ap (turnOf family enable slot (r .state .flags) clocks known values (r .place)) (filled-fetches family code marks entry (fits-script family code marks entry fits) at)
-
-    module _ (n : ℕ) where
-      same-family : run n .state .family ≡ family
-      same-family = run-family SlotName.A clocks known values start n
-
-      known-here : knownFamily (run n .state .family) ≡ true
-      known-here = ap knownFamily same-family ∙ family-known
-
-      place-here : validPlace clocks (run n .place) ≡ true
-      place-here = run-place SlotName.A clocks known values log start n
-
-      next-step : isRunning (slotOf (run n .state) SlotName.A .mode) ≡ true
-          → nextStep SlotName.A clocks known values (run n) ≡ afterTurn (run n .state) SlotName.A (turnFrom (progressOf (run n)))
-      next-step m =
-          step-turns (run n .state) SlotName.A clocks known values (run n .place) known-here log place-here (has-a (run n .state .family) known-here) (runs (slotOf (run n .state) SlotName.A .mode) m)
-          ∙ ap (afterTurn (run n .state) SlotName.A) (same-turn (run n) same-family (kept n))
-
-    pub run-next : (n : ℕ) → isRunning (slotOf (run n .state) SlotName.A .mode) ≡ true → run (suc n) ≡ noted (run n) (afterTurn (run n .state) SlotName.A (turnFrom (progressOf (run n))))
-    run-next n m = run-snoc SlotName.A clocks known values n (begun start) ∙ ap (noted (run n)) (next-step n m)
-
-    pub progress-next : (n : ℕ) → isRunning (slotOf (run n .state) SlotName.A .mode) ≡ true → progressOf (run (suc n)) ≡ progressAfter (progressOf (run n)) (turnFrom (progressOf (run n)))
-    progress-next n m = ap progressOf (run-next n m) ∙ progress-noted (run n) (turnFrom (progressOf (run n)))
-
-    pub writes-next : (n : ℕ) → isRunning (slotOf (run n .state) SlotName.A .mode) ≡ true → run (suc n) .writes ≡ run n .writes ++ wroteBy (turnFrom (progressOf (run n)) .effect)
-    writes-next n m = ap (λ (r : Run). r .writes) (run-next n m)
-
-    -- a slot that does not run has come to its end
-    pub run-rests : (n : ℕ) → isRunning (slotOf (run n .state) SlotName.A .mode) ≡ false → n ≤ fullSteps family
-        → run n ≡ replayedRun family code marks entry addr word flags0 flags1 enable clocks known values
-    run-rests n m h =
-        let still : fetchedBy (nextStep SlotName.A clocks known values (run n) .effect) ≡ 0 =
-        ap (λ (t : Stepped). fetchedBy (t .effect)) (step-rests (run n .state) SlotName.A clocks known values (run n .place) (known-here n) log (place-here n) m) in
-        let left = fullSteps family - n in
-        let all : n + left ≡ fullSteps family = omega arith in
-        sym (settled-more SlotName.A clocks known values n left (begun start) still) ∙ ap run all
-
-    count-small : (n : ℕ) → run n .count ≤ n
-    unfolding runFor
-    count-small zero = omega arith
-    count-small (suc n) =
-        let e = ap (λ (r : Run). r .count) (run-snoc SlotName.A clocks known values n (begun start)) in
-        omega (arith, e, count-small n, fetched-small (nextStep SlotName.A clocks known values (run n) .effect))
-
-    pub steps-small : (n : ℕ) → n ≤ 513 → run n .count < 1024
+  module _ (low : slot .ip .0 ≤ 512) (valid : validLog (x .log) ≡ true) where
+    steps-small : (n : ℕ) → n ≤ 513 → run n .count < 1024
     steps-small n h = omega (arith, count-small n)
 
     pub writes-small : (n : ℕ) → 2 * length (run n .writes) ≤ 340
-    writes-small n = omega (arith, replay-room family code marks entry addr word flags0 flags1 enable clocks known values fits n)
+    writes-small n = omega (arith, slot-room x slot flags low n)
 
-    pub sums-small : (n : ℕ) → (run n .waits < 2 ^ 64) × (run n .ewaits < 2 ^ 64)
+    sums-small : (n : ℕ) → (run n .waits < 2 ^ 64) × (run n .ewaits < 2 ^ 64)
     sums-small n =
-        let c = run-clocks clocks known values log SlotName.A start n in
-        let m = left-most clocks known values log (record { row = 0; used = 0 }) in
+        let c = slot-clocks x valid slot flags n in
+        let m = left-most (x .log) valid (record { row = 0; used = 0 }) in
         (omega arith, omega arith)
 
     -- one turn of the loop, which holds the run's progress
-    module _ (n : ℕ) (p : Progress) (is : p ≡ progressOf (run n)) (runs-on : isRunning (p .slot .mode) ≡ true) (t : Turn) (taken : t ≡ turnFrom p) where
-      running : isRunning (slotOf (run n .state) SlotName.A .mode) ≡ true
+    module _ (n : ℕ) (p : Progress) (is : p ≡ progressOf (run n)) (runs-on : isRunning (p .slot .mode) ≡ true) (t : Turn) (taken : t ≡ turnOn p) where
+      running : isRunning (run n .slot .mode) ≡ true
       running = rw is at runs-on
 
+      taken-is : t ≡ turnFrom x (run n)
+      taken-is = taken ∙ ap turnOn is
+
       pub progress-after : progressAfter p t ≡ progressOf (run (suc n))
-      progress-after = rw (taken, is) (sym (progress-next n running))
+      progress-after = rw (taken-is, is) (sym (progress-took (run n) (turnFrom x (run n))) ∙ sym (ap progressOf (run-next n running)))
 
-      effect-is : t .effect ≡ turnFrom (progressOf (run n)) .effect
-      effect-is = ap (λ (x : Turn). x .effect) taken ∙ ap (λ (q : Progress). turnFrom q .effect) is
-
-      used-is : p .used ≡ 2 * length (run n .writes)
-      used-is = ap (λ (q : Progress). q .used) is
+      writes-counted : p .writes ≡ length (run n .writes)
+      writes-counted = ap (λ (q : Progress). q .writes) is
 
       writes-are : run (suc n) .writes ≡ run n .writes ++ wroteBy (t .effect)
-      writes-are = writes-next n running ∙ ap (λ (x : Effect). run n .writes ++ wroteBy x) (sym effect-is)
+      writes-are = ap (λ (r : SlotRun). r .writes) (run-next n running) ∙ ap (λ (u : Turn). run n .writes ++ wroteBy (u .effect)) (sym taken-is)
 
       module _ (lent now : List ℕ) (enough : 340 ≤ length lent) (held : now ≡ writtenInto lent (run n .writes)) where
         sized : length now ≡ length lent
         sized = ap length held ∙ written-length lent (run n .writes) (omega (arith, writes-small n))
 
-        pub store-room : p .used + 2 * length (wroteBy (t .effect)) ≤ length now
-        store-room = omega (arith, used-is, sized, writes-small (suc n), ap length writes-are, length-append (run n .writes) (wroteBy (t .effect)))
+        pub store-room : 2 * p .writes + 2 * length (wroteBy (t .effect)) ≤ length now
+        store-room = omega (arith, writes-counted, sized, writes-small (suc n), ap length writes-are, length-append (run n .writes) (wroteBy (t .effect)))
 
-        pub store-is : sets now (p .used) (entriesOf (wroteBy (t .effect))) ≡ writtenInto lent (run (suc n) .writes)
+        pub store-is : sets now (2 * p .writes) (entriesOf (wroteBy (t .effect))) ≡ writtenInto lent (run (suc n) .writes)
         store-is =
-            rw (held, used-is)
+            rw (held, writes-counted)
             (written-more lent (run n .writes) (wroteBy (t .effect)) (omega (arith, writes-small (suc n), ap length writes-are))
             ∙ ap (writtenInto lent) (sym writes-are))
 
-      pub turn-fits : n ≤ 512 → (p .steps < 1024) × (p .used < 1024) × (p .waited + t .waited < 2 ^ 64) × (p .searched + t .searched < 2 ^ 64)
+      pub turn-fits : n ≤ 512 → (p .steps < 1024) × (p .writes < 1024) × (p .waited + t .waited < 2 ^ 64) × (p .searched + t .searched < 2 ^ 64)
       turn-fits h =
           let next = sums-small (suc n) in (
             omega (arith, ap (λ (q : Progress). q .steps) is, steps-small n (omega arith)),
-            omega (arith, used-is, writes-small n),
+            omega (arith, writes-counted, writes-small n),
             omega (arith, ap (λ (q : Progress). q .waited) progress-after, next .0),
             omega (arith, ap (λ (q : Progress). q .searched) progress-after, next .1),
           )

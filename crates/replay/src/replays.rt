@@ -5,13 +5,15 @@ ghost use Prim.Native.Nat.{_+_, _*_, _^_, _<_, _≤_};
 ghost use lib.ListN.{length};
 ghost use lib.Seq.{sets};
 ghost use Rattle.fetch.specs.Fetch.{fetchOf};
-ghost use Rattle.log.specs.Validity.{validLog};
 ghost use Rattle.flags.specs.Flags.{flagsFromWords};
+ghost use Rattle.log.specs.Log.{logOf};
+ghost use Rattle.log.specs.Validity.{validLog};
+ghost use Rattle.waits.specs.Left.{leftOf};
 ghost use Rattle.turn.specs.Turn.{turnOf};
-ghost use Rattle.script.specs.Input.{scriptFits};
 ghost use Rattle.run.specs.Run.{wroteBy, fetchedBy};
-ghost use Rattle.run.specs.Replay.{maxEntries, endingOf, entriesOf, Replays};
-ghost use Rattle.replay.specs.Progress.{progressAfter, toldAt, RunsThrough};
+ghost use Rattle.run.specs.Replay.{maxEntries, endingOf, entriesOf, progressOf, slotAtEntry, toldOf, RunsSlot, Replays};
+ghost use Rattle.run.specs.SlotRun.{sceneFor, slotBegun};
+ghost use Rattle.replay.specs.Progress.{progressAfter, RunsThrough};
 use flags::Flags;
 use isa::CodeAddress;
 use isa::Decoded;
@@ -19,8 +21,10 @@ use isa::MmioAddress;
 use log::Place;
 use refusals::Unreplayable;
 use run::Ending;
+use run::Progress;
 use run::ReplayAnswer;
 use run::Replayed;
+use run::RunAnswer;
 use script::script_fits;
 use state::Mode;
 use state::Slot;
@@ -30,20 +34,8 @@ use turn::Turn;
 // Two entries a write, and a script of 512 bytes makes at most 170 writes.
 pub const MAX_ENTRIES: usize = 340;
 
-// Where a run stands.
-pub struct Progress {
-    pub slot: Slot,
-    pub flags: Flags,
-    pub place: Place,
-    pub steps: usize,
-    // lent entries used
-    pub used: usize,
-    pub waited: u64,
-    pub searched: u64,
-}
-
-// Runs the script in slot A from its entry, with these registers, under the log. The writes go into the lent entries,
-// address and data of each; the other entries stay as lent.
+// Runs the script from its entry, with these registers, under the log. The writes go into the lent entries, address and
+// data of each; the other entries stay as lent.
 pub fn replay<'a>(
     family: u8,
     code: &'a [u8],
@@ -59,50 +51,85 @@ pub fn replay<'a>(
     values: &'a [u32],
     writes: &mut [u32],
 ) -> ReplayAnswer
-    ensures { λ r. ⌜ Replays family (now (code .entry)) (now (marks .entry)) (entry .0) (addr .0) «data» «flags_0» «flags_1» enable (now (clocks .entry)) (now (known .entry)) (now (values .entry)) (now (writes .entry)) (now (writes .exit)) r ⌝ }
+    ensures { λ r. ⌜ Replays
+        (sceneFor family (now (code .entry)) (now (marks .entry)) enable (logOf (now (clocks .entry)) (now (known .entry)) (now (values .entry))))
+        (slotAtEntry (entry .0) (addr .0) «data») (flagsFromWords «flags_0» «flags_1») (now (writes .entry)) (now (writes .exit)) r ⌝ }
 {
-    if !script_fits(family, code, marks, entry) {
-        return ReplayAnswer::Refused(Unreplayable::Input);
-    }
-    if writes.len() < MAX_ENTRIES {
-        return ReplayAnswer::Refused(Unreplayable::Room);
-    }
-    if !log::valid_log(clocks, known, values) {
-        return ReplayAnswer::Refused(Unreplayable::Log);
-    }
-    let last = run_turns(
+    let slot = Slot {
+        mode: Mode::Running,
+        ip: entry,
+        addr,
+        data,
+    };
+    let flags = flags::flags_from_words(flags_0, flags_1);
+    let answer = run(
         family,
         code,
         marks,
-        entry,
-        addr,
-        data,
-        flags_0,
-        flags_1,
+        slot,
+        flags,
         enable,
         clocks,
         known,
         values,
         writes,
     );
-    ReplayAnswer::Ended(told(last, clocks))
+    match answer {
+        RunAnswer::Ended(last) => ReplayAnswer::Ended(told(last, clocks)),
+        RunAnswer::Refused(why) => ReplayAnswer::Refused(why),
+    }
 }
 
-fn begin(entry: CodeAddress, addr: MmioAddress, data: u32, flags_0: u32, flags_1: u32) -> Progress
-    ensures { λ r. ⌜ r ≡ record { slot = record { mode = Mode.Running; ip = entry; addr = addr; «data» = «data» }; flags = flagsFromWords «flags_0» «flags_1»; place = record { row = 0; used = 0 }; steps = 0; used = 0; waited = 0; searched = 0 } ⌝ }
+// Runs a slot from where it stands, under the log. The writes go into the lent entries, address and data of each; the
+// other entries stay as lent.
+pub fn run<'a>(
+    family: u8,
+    code: &'a [u8],
+    marks: &'a [u8],
+    slot: Slot,
+    flags: Flags,
+    enable: bool,
+    clocks: &'a [u64],
+    known: &'a [u32],
+    values: &'a [u32],
+    writes: &mut [u32],
+) -> RunAnswer
+    ensures { λ r. ⌜ RunsSlot
+        (sceneFor family (now (code .entry)) (now (marks .entry)) enable (logOf (now (clocks .entry)) (now (known .entry)) (now (values .entry))))
+        slot flags (now (writes .entry)) (now (writes .exit)) r ⌝ }
 {
-    let flags = flags::flags_from_words(flags_0, flags_1);
+    if !script_fits(family, code, marks, slot.ip) {
+        return RunAnswer::Refused(Unreplayable::Input);
+    }
+    if writes.len() < MAX_ENTRIES {
+        return RunAnswer::Refused(Unreplayable::Room);
+    }
+    if !log::valid_log(clocks, known, values) {
+        return RunAnswer::Refused(Unreplayable::Log);
+    }
+    RunAnswer::Ended(run_turns(
+        family,
+        code,
+        marks,
+        slot,
+        flags,
+        enable,
+        clocks,
+        known,
+        values,
+        writes,
+    ))
+}
+
+fn begin(slot: Slot, flags: Flags) -> Progress
+    ensures { λ r. ⌜ r ≡ progressOf (slotBegun slot flags) ⌝ }
+{
     Progress {
-        slot: Slot {
-            mode: Mode::Running,
-            ip: entry,
-            addr,
-            data,
-        },
+        slot,
         flags,
         place: Place { row: 0, used: 0 },
         steps: 0,
-        used: 0,
+        writes: 0,
         waited: 0,
         searched: 0,
     }
@@ -119,7 +146,8 @@ fn take_turn<'a>(
     values: &'a [u32],
     progress: Progress,
 ) -> Turn
-    ensures { λ r. ⌜ r ≡ turnOf family enable (progress .slot) (progress .flags) (now (clocks .entry)) (now (known .entry)) (now (values .entry)) (progress .place) (fetchOf family (now (code .entry)) (now (marks .entry)) (progress .slot .ip .0)) ⌝ }
+    ensures { λ r. ⌜ r ≡ turnOf family enable (progress .slot) (progress .flags) (logOf (now (clocks .entry)) (now (known .entry)) (now (values .entry)))
+        (progress .place) (fetchOf family (now (code .entry)) (now (marks .entry)) (progress .slot .ip .0)) ⌝ }
 {
     let slot = progress.slot;
     let flags = progress.flags;
@@ -157,9 +185,9 @@ fn fetched(effect: Effect) -> usize
     }
 }
 
-// Two entries for a write, none for any other effect.
-fn entries(effect: Effect) -> usize
-    ensures { λ r. ⌜ r ≡ 2 * length (wroteBy effect) ⌝ }
+// How many writes an effect is.
+fn written(effect: Effect) -> usize
+    ensures { λ r. ⌜ r ≡ length (wroteBy effect) ⌝ }
 {
     match effect {
         Effect::Refused(_) => 0,
@@ -167,7 +195,7 @@ fn entries(effect: Effect) -> usize
         Effect::Stopped(_) => 0,
         Effect::Unknown => 0,
         Effect::Done => 0,
-        Effect::Wrote(_, _) => 2,
+        Effect::Wrote(_, _) => 1, // one write
     }
 }
 
@@ -190,7 +218,8 @@ fn store(effect: Effect, writes: &mut [u32], at: usize)
 }
 
 fn after_turn(progress: Progress, turn: Turn) -> Progress
-    requires { ⌜ (progress .steps < 1024) × (progress .used < 1024) × (progress .waited + turn .waited < 2 ^ 64) × (progress .searched + turn .searched < 2 ^ 64) ⌝ }
+    requires { ⌜ (progress .steps < 1024) × (progress .writes < 1024)
+        × (progress .waited + turn .waited < 2 ^ 64) × (progress .searched + turn .searched < 2 ^ 64) ⌝ }
     ensures { λ r. ⌜ r ≡ progressAfter progress turn ⌝ }
 {
     let slot = turn.slot;
@@ -202,7 +231,7 @@ fn after_turn(progress: Progress, turn: Turn) -> Progress
         flags,
         place,
         steps: progress.steps + fetched(effect),
-        used: progress.used + entries(effect),
+        writes: progress.writes + written(effect),
         waited: progress.waited + turn.waited,
         searched: progress.searched + turn.searched,
     }
@@ -213,35 +242,34 @@ fn run_turns<'a>(
     family: u8,
     code: &'a [u8],
     marks: &'a [u8],
-    entry: CodeAddress,
-    addr: MmioAddress,
-    data: u32,
-    flags_0: u32,
-    flags_1: u32,
+    slot: Slot,
+    flags: Flags,
     enable: bool,
     clocks: &'a [u64],
     known: &'a [u32],
     values: &'a [u32],
     writes: &mut [u32],
 ) -> Progress
-    requires { ⌜ (scriptFits family (now code) (now marks) (entry .0) ≡ true) × (validLog (now clocks) (now known) (now values) ≡ true) × (maxEntries ≤ length (now writes)) ⌝ }
-    ensures { λ r. ⌜ RunsThrough family (now (code .entry)) (now (marks .entry)) (entry .0) (addr .0) «data» «flags_0» «flags_1» enable (now (clocks .entry)) (now (known .entry)) (now (values .entry)) (now (writes .entry)) (now (writes .exit)) r ⌝ }
+    requires { ⌜ (slot .ip .0 ≤ 512) × (validLog (logOf (now clocks) (now known) (now values)) ≡ true) × (maxEntries ≤ length (now writes)) ⌝ }
+    ensures { λ r. ⌜ RunsThrough
+        (sceneFor family (now (code .entry)) (now (marks .entry)) enable (logOf (now (clocks .entry)) (now (known .entry)) (now (values .entry))))
+        slot flags (now (writes .entry)) (now (writes .exit)) r ⌝ }
 {
     let limit = families::code_size(family) + 1;
-    let mut progress = begin(entry, addr, data, flags_0, flags_1);
+    let mut progress = begin(slot, flags);
     let mut turns = 0;
     let last = loop {
         if limit <= turns {
             break progress;
         }
-        let slot = progress.slot;
-        let mode = slot.mode;
+        let held = progress.slot;
+        let mode = held.mode;
         if !state::is_running(mode) {
             break progress;
         }
         let turn = take_turn(family, code, marks, enable, clocks, known, values, progress);
         let effect = turn.effect;
-        let used = progress.used;
+        let used = 2 * progress.writes;
         store(effect, writes, used);
         progress = after_turn(progress, turn);
         turns += 1;
@@ -249,7 +277,8 @@ fn run_turns<'a>(
     last
 }
 
-fn ending_of(mode: Mode) -> Ending
+// How a run ended whose slot is in this mode.
+pub fn ending_of(mode: Mode) -> Ending
     ensures { λ r. ⌜ r ≡ endingOf mode ⌝ }
 {
     match mode {
@@ -261,8 +290,10 @@ fn ending_of(mode: Mode) -> Ending
     }
 }
 
+// What is answered of a run; what is left of a log fits 64 bits.
 fn told(last: Progress, clocks: &[u64]) -> Replayed
-    ensures { λ r. ⌜ r ≡ toldAt (now (clocks .entry)) last ⌝ }
+    requires { ⌜ leftOf (now clocks) (last .place) < 2 ^ 64 ⌝ }
+    ensures { λ r. ⌜ r ≡ toldOf (now (clocks .entry)) last ⌝ }
 {
     let slot = last.slot;
     let flags = last.flags;
@@ -280,7 +311,7 @@ fn told(last: Progress, clocks: &[u64]) -> Replayed
         flags_1: flags::flags_word_1(flags),
         place,
         steps: last.steps,
-        writes: last.used / 2,
+        writes: last.writes,
         waited: last.waited,
         searched: last.searched,
         left: waits::clocks_left(clocks, place),

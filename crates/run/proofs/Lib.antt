@@ -1,7 +1,6 @@
-pub mod Runs
-pub mod Alike
-pub mod RunClocks
-pub mod Filled
+pub mod SlotRuns
+pub mod InState
+pub mod Held
 pub mod Settled
 pub mod Room
 pub mod ReplayEnds

@@ -1,47 +1,55 @@
--- Replay (01, "Other refusals" and "Demand 3's words"): the run of one step more than the code RAM has bytes.
-use Prim.Native.Nat.{ℕ, suc, _+_, _-_, _*_}
+-- The run of a slot to its end, and replay (01, "Other refusals" and "Demand 3's words"): one step more than the code RAM has bytes.
+use Prim.Native.Nat.{ℕ, suc, _+_, _*_}
 use mathlib.Core.Path.{_≡_}
-use mathlib.Core.Bool.{Bool, false, cond, not}
+use mathlib.Core.Bool.{true, cond, not}
 use mathlib.Core.List.{List, [], _∷_, _++_}
-use lib.ListN.{length, replicate, drop}
+use lib.ListN.{length, drop}
 use lib.Dec.{leb}
 use Rattle.families.specs.Family.{codeSize}
-use Rattle.isa.specs.declared.addresses.CodeAddress.{CodeAddress}
-use Rattle.isa.specs.declared.addresses.MmioAddress.{MmioAddress}
 use Rattle.refusals.specs.Number.{unreplayableNumber}
 use Rattle.refusals.specs.declared.refusals.Unreadable.{Unreadable}
+use Rattle.refusals.specs.declared.refusals.Unreplayable.{Unreplayable}
 use Rattle.waits.specs.Left.{leftOf}
+use Rattle.log.specs.Log.{Log}
 use Rattle.log.specs.Validity.{validLog}
-use Rattle.log.specs.declared.place.Place.{Place}
-use Rattle.flags.specs.Flags.{flagsWord0, flagsWord1, flagsFromWords}
-use Rattle.state.specs.Slot.{slotOf}
+use Rattle.flags.specs.Flags.{flagsWord0, flagsWord1}
 use Rattle.flags.specs.declared.flags.Flags.{Flags}
 use Rattle.state.specs.declared.slots.Mode.{Mode}
 use Rattle.state.specs.declared.slots.Slot.{Slot}
 use Rattle.state.specs.declared.slots.SlotName.{SlotName}
 use Rattle.state.specs.declared.state.State.{State}
 use Rattle.turn.specs.declared.turn.Effect.{Effect}
-use Rattle.machine.specs.declared.steps.Stepped.{Stepped}
 use Rattle.script.specs.Input.{scriptFits}
 use Rattle.run.specs.Run.{Run, Write, begun, nextStep, runFor}
+use Rattle.run.specs.SlotRun.{Scene, SlotRun, slotBegun, slotRunFor, inState, Holds}
 use Rattle.run.specs.declared.answers.Ending.{Ending}
+use Rattle.run.specs.declared.answers.Progress.{Progress}
+use Rattle.run.specs.declared.answers.RunAnswer.{RunAnswer}
 use Rattle.run.specs.declared.answers.ReplayAnswer.{ReplayAnswer}
 use Rattle.run.specs.declared.answers.Replayed.{Replayed}
-use Rattle.refusals.specs.declared.refusals.Unreplayable.{Unreplayable}
 
--- the state that is replayed: slot A runs the script at the entry, all else is fresh
-abbrev pub replayState : ℕ → List ℕ → List ℕ → ℕ → ℕ → ℕ → ℕ → ℕ → Bool → State
-replayState family code marks entry addr word flags0 flags1 enable = record {
-  family = family;
-  code = code ++ replicate (512 - length code) 0;
-  marks = marks ++ replicate (512 - length marks) 0;
-  flags = flagsFromWords flags0 flags1;
-  enable = enable;
-  «override_mode» = false;
-  entries = 0;
-  «entries_high» = 0;
-  a = record { mode = Mode.Running; ip = record { 0 = entry }; addr = record { 0 = addr }; «data» = word };
-  b = record { mode = Mode.Idle; ip = record { 0 = 0 }; addr = record { 0 = 0 }; «data» = 0 };
+-- one step more than the family's code RAM has bytes
+abbrev pub fullSteps : ℕ → ℕ
+fullSteps family = suc (codeSize family)
+
+-- a slot's run of so many turns
+abbrev pub fullSlotRun : Scene → Slot → Flags → SlotRun
+fullSlotRun x slot flags = slotRunFor x (fullSteps (x .family)) (slotBegun slot flags)
+
+-- the run of the named slot from a state, of so many steps
+abbrev pub fullRun : SlotName → Log → State → Run
+fullRun name log s = runFor name log (fullSteps (s .family)) (begun s)
+
+-- how far a run came: its writes are counted
+abbrev pub progressOf : SlotRun → Progress
+progressOf r = record {
+  slot = r .slot;
+  flags = r .flags;
+  place = r .place;
+  steps = r .count;
+  writes = length (r .writes);
+  waited = r .waits;
+  searched = r .ewaits;
 }
 
 -- how a run ended that no step moves any more: a slot that still runs has stopped
@@ -52,22 +60,39 @@ endingOf Mode.Waiting = Ending.Log
 endingOf Mode.Blocked = Ending.Poke
 endingOf Mode.Hung = Ending.Hang
 
--- what is answered of a run of the named slot
-abbrev pub toldOf : SlotName → List ℕ → Run → Replayed
-toldOf name clocks r = let slot = slotOf (r .state) name in record {
-  ending = endingOf (slot .mode);
-  ip = slot .ip;
-  addr = slot .addr;
-  «data» = slot .«data»;
-  «flags_0» = flagsWord0 (r .state .flags);
-  «flags_1» = flagsWord1 (r .state .flags);
-  place = r .place;
-  steps = r .count;
-  writes = length (r .writes);
-  waited = r .waits;
-  searched = r .ewaits;
-  left = leftOf clocks (r .place);
+-- what replay answers of a run over rows of these clocks
+abbrev pub toldOf : List ℕ → Progress → Replayed
+toldOf clocks p = record {
+  ending = endingOf (p .slot .mode);
+  ip = p .slot .ip;
+  addr = p .slot .addr;
+  «data» = p .slot .«data»;
+  «flags_0» = flagsWord0 (p .flags);
+  «flags_1» = flagsWord1 (p .flags);
+  place = p .place;
+  steps = p .steps;
+  writes = p .writes;
+  waited = p .waited;
+  searched = p .searched;
+  left = leftOf clocks (p .place);
 }
+
+abbrev pub toldAnswer : List ℕ → RunAnswer → ReplayAnswer
+toldAnswer clocks (RunAnswer.Ended last) = ReplayAnswer.Ended (toldOf clocks last)
+toldAnswer clocks (RunAnswer.Refused why) = ReplayAnswer.Refused why
+
+-- the number that an answer stands for, 0 where it ran
+abbrev pub runNumber : RunAnswer → ℕ
+runNumber (RunAnswer.Ended last) = 0
+runNumber (RunAnswer.Refused why) = unreplayableNumber why
+
+abbrev pub answerNumber : ReplayAnswer → ℕ
+answerNumber (ReplayAnswer.Ended told) = 0
+answerNumber (ReplayAnswer.Refused why) = unreplayableNumber why
+
+-- the entries that must be lent: two for each of the 170 writes that a script can make at most
+abbrev pub maxEntries : ℕ
+maxEntries = 340
 
 -- the lent entries that writes fill: address and data of each, in order
 abbrev pub entriesOf : List Write → List ℕ
@@ -77,58 +102,66 @@ entriesOf (w ∷ writes) = w .address ∷ w .word ∷ entriesOf writes
 abbrev pub writtenInto : List ℕ → List Write → List ℕ
 writtenInto lent writes = entriesOf writes ++ drop (2 * length writes) lent
 
--- one step more than the family's code RAM has bytes
-abbrev pub fullSteps : ℕ → ℕ
-fullSteps family = suc (codeSize family)
+-- a slot that runs from the entry, with this ADDR and DATA
+abbrev pub slotAtEntry : ℕ → ℕ → ℕ → Slot
+slotAtEntry entry addr word = record { mode = Mode.Running; ip = record { 0 = entry }; addr = record { 0 = addr }; «data» = word }
 
--- the run of the named slot from a state, of so many steps
-abbrev pub fullRun : SlotName → List ℕ → List ℕ → List ℕ → State → Run
-fullRun name clocks known values s = runFor name clocks known values (fullSteps (s .family)) (begun s)
-
--- the entries that must be lent: two for each of the 170 writes that a script can make at most
-abbrev pub maxEntries : ℕ
-maxEntries = 340
-
--- the number that replay's answer stands for, 0 where it ran
-abbrev pub answerNumber : ReplayAnswer → ℕ
-answerNumber (ReplayAnswer.Ended told) = 0
-answerNumber (ReplayAnswer.Refused why) = unreplayableNumber why
-
--- what replay is asked
-module _ (family : ℕ) (code marks : List ℕ) (entry addr word flags0 flags1 : ℕ) (enable : Bool) (clocks known values : List ℕ) where
-  abbrev pub replayedRun : Run
-  replayedRun = fullRun SlotName.A clocks known values (replayState family code marks entry addr word flags0 flags1 enable)
-
-  -- 9, 14, 15 in this order; then what the run gives
-  unfoldable pub replayOf : ℕ → ReplayAnswer
-  replayOf lent =
-      cond (scriptFits family code marks entry)
+-- a scene, and the slot and the flags from which it is run
+module _ (x : Scene) (slot : Slot) (flags : Flags) where
+  -- the script does not fit, fewer than 340 entries are lent, the log is none: tested in this order; then how far the run came
+  unfoldable pub runAnswerOf : ℕ → RunAnswer
+  runAnswerOf lent =
+      cond (scriptFits (x .family) (x .code) (x .marks) (slot .ip .0))
       (cond (leb maxEntries lent)
-      (cond (validLog clocks known values)
-      (ReplayAnswer.Ended (toldOf SlotName.A clocks replayedRun))
-      (ReplayAnswer.Refused Unreplayable.Log))
-      (ReplayAnswer.Refused Unreplayable.Room))
-      (ReplayAnswer.Refused Unreplayable.Input)
+      (cond (validLog (x .log))
+      (RunAnswer.Ended (progressOf (fullSlotRun x slot flags)))
+      (RunAnswer.Refused Unreplayable.Log))
+      (RunAnswer.Refused Unreplayable.Room))
+      (RunAnswer.Refused Unreplayable.Input)
 
-  -- which number it must have: 9 script, 14 fewer than 340 entries lent, 15 log, tested in this order
-  unfoldable pub replayRefusal : ℕ → ℕ
-  replayRefusal lent =
-      cond (not (scriptFits family code marks entry)) 9
+  -- which number an answer must have: 9 script, 14 fewer than 340 entries lent, 15 log, tested in this order
+  unfoldable pub runRefusal : ℕ → ℕ
+  runRefusal lent =
+      cond (not (scriptFits (x .family) (x .code) (x .marks) (slot .ip .0))) 9
       (cond (not (leb maxEntries lent)) 14
-      (cond (not (validLog clocks known values)) 15
+      (cond (not (validLog (x .log))) 15
       0))
 
   -- the lent entries after the answer: the writes and then as lent, and after a refusal as lent
-  abbrev pub lentAfter : List ℕ → ReplayAnswer → List ℕ
-  lentAfter lent (ReplayAnswer.Ended told) = writtenInto lent (replayedRun .writes)
-  lentAfter lent (ReplayAnswer.Refused why) = lent
+  abbrev pub lentAfter : List ℕ → RunAnswer → List ℕ
+  lentAfter lent (RunAnswer.Ended last) = writtenInto lent (fullSlotRun x slot flags .writes)
+  lentAfter lent (RunAnswer.Refused why) = lent
+
+  -- it is the machine's own run: in every state that holds the slot, so many steps of it are so many turns, and all else of the state stays
+  abbrev pub FollowsSteps : Type 0
+  FollowsSteps = (name : SlotName) (s : State) → Holds x slot flags name s → validLog (x .log) ≡ true
+      → (n : ℕ) → runFor name (x .log) n (begun s) ≡ inState s name (slotRunFor x n (slotBegun slot flags))
+
+  -- of a script that fits there is such a state
+  abbrev pub IsHeld : Type 0
+  IsHeld = scriptFits (x .family) (x .code) (x .marks) (slot .ip .0) ≡ true → (s : State) × (Holds x slot flags SlotName.A s)
+
+  -- what the run of a slot promises of its answer and of the lent entries, old and new
+  pub record RunsSlot (old new : List ℕ) (answer : RunAnswer) : Type 0 where
+    pub answered : answer ≡ runAnswerOf (length old)
+    pub numbered : runNumber answer ≡ runRefusal (length old)
+    pub lent : new ≡ lentAfter old answer
+    pub stepped : FollowsSteps
+    pub held : IsHeld
+
+  -- ---- replay
+
+  abbrev pub replayOf : ℕ → ReplayAnswer
+  replayOf lent = toldAnswer (x .log .clocks) (runAnswerOf lent)
 
   -- what holds of the end of a run
   pub record RunEnds (told : Replayed) : Type 0 where
-    -- a slot that still runs at the end is one that the next step stops
-    pub stops : told .ending ≡ Ending.Stop → (why : Unreadable) × (nextStep SlotName.A clocks known values replayedRun .effect ≡ Effect.Stopped why)
+    -- a slot that still runs at the end is one that the next step stops, in every state that holds it
+    pub stops : told .ending ≡ Ending.Stop
+        → (why : Unreadable)
+        × ((name : SlotName) (s : State) → Holds x slot flags name s → nextStep name (x .log) (fullRun name (x .log) s) .effect ≡ Effect.Stopped why)
     -- the clock law: the log's total is what waits spent, what ewaits passed by and what is left
-    pub clocked : leftOf clocks (record { row = 0; used = 0 }) ≡ told .waited + told .searched + told .left
+    pub clocked : leftOf (x .log .clocks) (record { row = 0; used = 0 }) ≡ told .waited + told .searched + told .left
 
   -- a refusal ends no run
   abbrev pub EndsRight : ReplayAnswer → Type 0
@@ -138,6 +171,8 @@ module _ (family : ℕ) (code marks : List ℕ) (entry addr word flags0 flags1 :
   -- what replay promises of its answer and of the lent entries, old and new
   pub record Replays (old new : List ℕ) (answer : ReplayAnswer) : Type 0 where
     pub answered : answer ≡ replayOf (length old)
-    pub numbered : answerNumber answer ≡ replayRefusal (length old)
-    pub lent : new ≡ lentAfter old answer
+    pub numbered : answerNumber answer ≡ runRefusal (length old)
+    pub lent : new ≡ lentAfter old (runAnswerOf (length old))
     pub ends : EndsRight answer
+    pub stepped : FollowsSteps
+    pub held : IsHeld

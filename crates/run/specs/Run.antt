@@ -1,14 +1,12 @@
 -- A run: the steps of one slot over a log, and what they did (01, "Demand 3's words").
 use Prim.Native.Nat.{ℕ, zero, suc, _+_}
 use mathlib.Core.List.{List, [], _∷_, _++_}
-use Rattle.isa.specs.declared.addresses.MmioAddress.{MmioAddress}
-use Rattle.refusals.specs.declared.refusals.Unreadable.{Unreadable}
+use Rattle.log.specs.Log.{Log}
 use Rattle.log.specs.declared.place.Place.{Place}
 use Rattle.machine.specs.Step.{stepOf}
 use Rattle.state.specs.declared.slots.SlotName.{SlotName}
 use Rattle.state.specs.declared.state.State.{State}
 use Rattle.machine.specs.declared.steps.Stepped.{Stepped}
-use Rattle.refusals.specs.declared.refusals.Unsteppable.{Unsteppable}
 use Rattle.turn.specs.declared.turn.Effect.{Effect}
 
 pub record Write : Type 0 where
@@ -58,10 +56,10 @@ noted r t = record {
 }
 
 -- one log and one slot
-module _ (name : SlotName) (clocks known values : List ℕ) where
+module _ (name : SlotName) (log : Log) where
   -- the next step of a run
   abbrev pub nextStep : Run → Stepped
-  nextStep r = stepOf (r .state) name clocks known values (r .place)
+  nextStep r = stepOf (r .state) name log (r .place)
 
   -- a run after n more steps
   unfoldable pub runFor : ℕ → Run → Run

@@ -1,8 +1,10 @@
 // What replay answers of a run.
+use flags::Flags;
 use isa::CodeAddress;
 use isa::MmioAddress;
 use log::Place;
 use refusals::Unreplayable;
+use state::Slot;
 
 // How a run ended.
 pub enum Ending {
@@ -31,6 +33,24 @@ pub struct Replayed {
     pub waited: u64,
     pub searched: u64,
     pub left: u64,
+}
+
+// How far a slot's run came.
+pub struct Progress {
+    pub slot: Slot,
+    pub flags: Flags,
+    pub place: Place,
+    // instructions fetched
+    pub steps: usize,
+    pub writes: usize,
+    // clocks spent in waits, and passed by in ewaits
+    pub waited: u64,
+    pub searched: u64,
+}
+
+pub enum RunAnswer {
+    Ended(Progress),
+    Refused(Unreplayable),
 }
 
 pub enum ReplayAnswer {

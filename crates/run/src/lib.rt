@@ -2,5 +2,7 @@
 mod answers;
 
 pub use answers::Ending;
+pub use answers::Progress;
 pub use answers::ReplayAnswer;
 pub use answers::Replayed;
+pub use answers::RunAnswer;

@@ -1,4 +1,4 @@
--- A script that is audited: what row 9's tests say of it, and the action read at a place; and a log. Assumes nothing.
+-- A script that is audited: what row 9's tests say of it, and the action read at a place. Assumes nothing.
 use Prim.Native.Nat.{ℕ, _+_, _^_, _≤_, _<_}
 use mathlib.Core.Path.{_≡_, refl}
 use mathlib.Core.Bool.{true}
@@ -25,12 +25,6 @@ pub record Script : Type 0 where
   pub code : List ℕ
   pub marks : List ℕ
   pub ranges : List ℕ
-
--- a log's columns
-pub record Log : Type 0 where
-  pub clocks : List ℕ
-  pub known : List ℕ
-  pub values : List ℕ
 
 -- ---- row 9's tests of a script, as facts
 

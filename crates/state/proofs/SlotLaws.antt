@@ -22,7 +22,3 @@ has-a family known =
 pub slot-back : (name : SlotName) (s : State) (slot : Slot) (flags : Flags) → slotOf (withSlot s name slot flags) name ≡ slot
 slot-back SlotName.A s slot flags = refl
 slot-back SlotName.B s slot flags = refl
-
-pub flags-back : (name : SlotName) (s : State) (slot : Slot) (flags : Flags) → withSlot s name slot flags .flags ≡ flags
-flags-back SlotName.A s slot flags = refl
-flags-back SlotName.B s slot flags = refl

@@ -7,6 +7,7 @@ use native.Mathlib.Omega.{arith}
 use lib.ListN.{length}
 use Rattle.ewaits.specs.Ewait.{ewaitOf, passedBy, leftAfter}
 use Rattle.waits.specs.Left.{leftOf}
+use Rattle.log.specs.Log.{Log}
 use Rattle.log.specs.Validity.{validLog, validPlace}
 use Rattle.ewaits.specs.declared.ewait.Released.{Released}
 use Rattle.log.specs.declared.place.Place.{Place}
@@ -31,20 +32,20 @@ module _ (clocks : List ℕ) where
   ewait-place (Released.At p n) h = h
   ewait-place (Released.End n) h = valid-at-end clocks
 
-module _ (clocks known values : List ℕ) (log : validLog clocks known values ≡ true) where
-  pub elapsed-clocks : (action : Action) (p : Place) → (let e = elapsedOf action clocks known values p in Spends clocks p (e .waited) (e .searched) (e .place))
-  elapsed-clocks (Action.Wait n) p = omega (arith, wait-spent clocks p n)
+module _ (log : Log) (valid : validLog log ≡ true) where
+  pub elapsed-clocks : (action : Action) (p : Place) → (let e = elapsedOf action log p in Spends (log .clocks) p (e .waited) (e .searched) (e .place))
+  elapsed-clocks (Action.Wait n) p = omega (arith, wait-spent (log .clocks) p n)
   elapsed-clocks (Action.Ewait event value) p =
-      ewait-clocks clocks p (ewaitOf clocks known values p event value) (ewait-spent clocks known values event value p (left-fits clocks known values log p))
+      ewait-clocks (log .clocks) p (ewaitOf log p event value) (ewait-spent log event value p (left-fits log valid p))
   elapsed-clocks (Action.Flag change flag) p = omega arith
   elapsed-clocks (Action.Load part word) p = omega arith
   elapsed-clocks (Action.Poke part word) p = omega arith
   elapsed-clocks Action.Exit p = omega arith
 
-  pub elapsed-place : (action : Action) (p : Place) → validPlace clocks p ≡ true → validPlace clocks (elapsedOf action clocks known values p .place) ≡ true
-  elapsed-place (Action.Wait n) p v = wait-valid clocks known values log p n v
+  pub elapsed-place : (action : Action) (p : Place) → validPlace (log .clocks) p ≡ true → validPlace (log .clocks) (elapsedOf action log p .place) ≡ true
+  elapsed-place (Action.Wait n) p v = wait-valid log valid p n v
   elapsed-place (Action.Ewait event value) p v =
-      ewait-place clocks (ewaitOf clocks known values p event value) (ewait-valid clocks known values log event value p v)
+      ewait-place (log .clocks) (ewaitOf log p event value) (ewait-valid log valid event value p v)
   elapsed-place (Action.Flag change flag) p v = v
   elapsed-place (Action.Load part word) p v = v
   elapsed-place (Action.Poke part word) p v = v

@@ -1,17 +1,15 @@
 -- How time passes during an action (01, "Steps and time": only wait and ewait use clocks).
 use Prim.Native.Nat.{ℕ, _-_}
 use mathlib.Core.Bool.{true, false}
-use mathlib.Core.List.{List}
 use lib.ListN.{length}
 use lib.Dec.{eqb}
 use Rattle.waits.specs.Wait.{waitOf}
 use Rattle.ewaits.specs.Ewait.{ewaitOf}
 use Rattle.ewaits.specs.declared.ewait.Released.{Released}
+use Rattle.log.specs.Log.{Log}
 use Rattle.log.specs.declared.place.Place.{Place}
 use Rattle.waits.specs.declared.wait.Waited.{Waited}
 use Rattle.actions.specs.declared.actions.Action.{Action}
-use Rattle.flags.specs.declared.flags.Change.{Change}
-use Rattle.actions.specs.declared.actions.Part.{Part}
 use Rattle.time.specs.declared.elapsed.Elapsed.{Elapsed}
 
 -- an unfinished wait counts as far as it got
@@ -26,10 +24,10 @@ afterEwait rows (Released.End n) = record { place = record { row = rows; used = 
 abbrev pub atOnce : Place → Elapsed
 atOnce p = record { place = p; finished = true; waited = 0; searched = 0 }
 
-abbrev pub elapsedOf : Action → List ℕ → List ℕ → List ℕ → Place → Elapsed
-elapsedOf (Action.Wait n) clocks known values p = afterWait n (waitOf clocks p n)
-elapsedOf (Action.Ewait event value) clocks known values p = afterEwait (length clocks) (ewaitOf clocks known values p event value)
-elapsedOf (Action.Flag change flag) clocks known values p = atOnce p
-elapsedOf (Action.Load part word) clocks known values p = atOnce p
-elapsedOf (Action.Poke part word) clocks known values p = atOnce p
-elapsedOf Action.Exit clocks known values p = atOnce p
+abbrev pub elapsedOf : Action → Log → Place → Elapsed
+elapsedOf (Action.Wait n) log p = afterWait n (waitOf (log .clocks) p n)
+elapsedOf (Action.Ewait event value) log p = afterEwait (length (log .clocks)) (ewaitOf log p event value)
+elapsedOf (Action.Flag change flag) log p = atOnce p
+elapsedOf (Action.Load part word) log p = atOnce p
+elapsedOf (Action.Poke part word) log p = atOnce p
+elapsedOf Action.Exit log p = atOnce p

@@ -2,6 +2,7 @@
 ghost use mathlib.Core.Path.{_≡_};
 ghost use Rattle.time.specs.Time.{atOnce, afterWait, afterEwait, elapsedOf};
 ghost use Rattle.waits.specs.Wait.{waitOf};
+ghost use Rattle.log.specs.Log.{logOf};
 use actions::Action;
 use ewaits::Released;
 use log::Place;
@@ -66,7 +67,7 @@ pub fn elapse<'a>(
     values: &'a [u32],
     at: Place,
 ) -> Elapsed
-    ensures { λ r. ⌜ r ≡ elapsedOf action (now (clocks .entry)) (now (known .entry)) (now (values .entry)) at ⌝ }
+    ensures { λ r. ⌜ r ≡ elapsedOf action (logOf (now (clocks .entry)) (now (known .entry)) (now (values .entry))) at ⌝ }
 {
     match action {
         Action::Wait(n) => after_wait(clocks, at, n),

@@ -1,11 +1,12 @@
 -- What a turn does to the place and the clocks. Assumes nothing.
-use Prim.Native.Nat.{ℕ, _+_}
+use Prim.Native.Nat.{ℕ}
 use mathlib.Core.Path.{_≡_, refl}
 use mathlib.Core.Bool.{Bool, true}
 use mathlib.Core.List.{List}
 use native.Mathlib.Omega.{arith}
 use Rattle.isa.specs.declared.reader.Decoded.{Decoded}
 use Rattle.refusals.specs.declared.refusals.Unreadable.{Unreadable}
+use Rattle.log.specs.Log.{Log}
 use Rattle.log.specs.Validity.{validLog, validPlace}
 use Rattle.log.specs.declared.place.Place.{Place}
 use Rattle.actions.specs.Action.{actionOf}
@@ -29,15 +30,15 @@ unfetched-place family slot flags p Unreadable.Unknown = refl
 unfetched-place family slot flags p Unreadable.Short = refl
 unfetched-place family slot flags p Unreadable.NotUploaded = refl
 
-module _ (clocks known values : List ℕ) (log : validLog clocks known values ≡ true) where
+module _ (log : Log) (valid : validLog log ≡ true) where
   pub turn-clocks : (family : ℕ) (enable : Bool) (slot : Slot) (flags : Flags) (p : Place) (fetched : Decoded)
-      → (let t = turnOf family enable slot flags clocks known values p fetched in Spends clocks p (t .waited) (t .searched) (t .place))
+      → (let t = turnOf family enable slot flags log p fetched in Spends (log .clocks) p (t .waited) (t .searched) (t .place))
   unfolding performOf
-  turn-clocks family enable slot flags p (Decoded.Instruction instruction n) = elapsed-clocks clocks known values log (actionOf instruction) p
-  turn-clocks family enable slot flags p (Decoded.Refused why) = unfetched-clocks clocks family slot flags p why
+  turn-clocks family enable slot flags p (Decoded.Instruction instruction n) = elapsed-clocks log valid (actionOf instruction) p
+  turn-clocks family enable slot flags p (Decoded.Refused why) = unfetched-clocks (log .clocks) family slot flags p why
 
-  pub turn-place : (family : ℕ) (enable : Bool) (slot : Slot) (flags : Flags) (p : Place) (fetched : Decoded) → validPlace clocks p ≡ true
-      → validPlace clocks (turnOf family enable slot flags clocks known values p fetched .place) ≡ true
+  pub turn-place : (family : ℕ) (enable : Bool) (slot : Slot) (flags : Flags) (p : Place) (fetched : Decoded) → validPlace (log .clocks) p ≡ true
+      → validPlace (log .clocks) (turnOf family enable slot flags log p fetched .place) ≡ true
   unfolding performOf
-  turn-place family enable slot flags p (Decoded.Instruction instruction n) v = elapsed-place clocks known values log (actionOf instruction) p v
+  turn-place family enable slot flags p (Decoded.Instruction instruction n) v = elapsed-place log valid (actionOf instruction) p v
   turn-place family enable slot flags p (Decoded.Refused why) v = rw (unfetched-place family slot flags p why) v

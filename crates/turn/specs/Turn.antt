@@ -1,27 +1,22 @@
 -- What a fetched instruction does, a function for each part of the state (01, "Instructions" and "Steps and time").
 use Prim.Native.Nat.{ℕ, _+_}
 use mathlib.Core.Bool.{Bool, cond}
-use mathlib.Core.List.{List}
 use Rattle.families.specs.Family.{unknownHangs}
-use Rattle.isa.specs.declared.addresses.CodeAddress.{CodeAddress}
-use Rattle.isa.specs.declared.addresses.MmioAddress.{MmioAddress}
 use Rattle.isa.specs.declared.instructions.Instruction.{Instruction}
 use Rattle.isa.specs.declared.reader.Decoded.{Decoded}
 use Rattle.refusals.specs.declared.refusals.Unreadable.{Unreadable}
+use Rattle.log.specs.Log.{Log}
 use Rattle.log.specs.declared.place.Place.{Place}
 use Rattle.actions.specs.Action.{actionOf, mergeOf}
 use Rattle.flags.specs.Flags.{changedFlags}
 use Rattle.time.specs.Time.{elapsedOf}
 use Rattle.actions.specs.declared.actions.Action.{Action}
-use Rattle.flags.specs.declared.flags.Change.{Change}
-use Rattle.actions.specs.declared.actions.Part.{Part}
 use Rattle.flags.specs.declared.flags.Flags.{Flags}
 use Rattle.state.specs.declared.slots.Mode.{Mode}
 use Rattle.state.specs.declared.slots.Slot.{Slot}
 use Rattle.time.specs.declared.elapsed.Elapsed.{Elapsed}
 use Rattle.turn.specs.declared.turn.Effect.{Effect}
 use Rattle.turn.specs.declared.turn.Turn.{Turn}
-use Rattle.refusals.specs.declared.refusals.Unsteppable.{Unsteppable}
 
 -- an unfinished wait holds the slot; with HWSQ_ENABLE 0 a poke blocks it; exit ends the script
 abbrev pub modeAfter : Action → Bool → Bool → Mode
@@ -112,7 +107,7 @@ abbrev pub unfetched : ℕ → Slot → Flags → Place → Unreadable → Turn
 unfetched family slot flags p why = unfetchedAt family slot flags p (slot .ip .0 + 1) why
 
 -- the turn of a slot whose fetch answered so
-abbrev pub turnOf : ℕ → Bool → Slot → Flags → List ℕ → List ℕ → List ℕ → Place → Decoded → Turn
-turnOf family enable slot flags clocks known values p (Decoded.Instruction instruction n) =
-    performOf enable slot flags (actionOf instruction) n (elapsedOf (actionOf instruction) clocks known values p)
-turnOf family enable slot flags clocks known values p (Decoded.Refused why) = unfetched family slot flags p why
+abbrev pub turnOf : ℕ → Bool → Slot → Flags → Log → Place → Decoded → Turn
+turnOf family enable slot flags log p (Decoded.Instruction instruction n) =
+    performOf enable slot flags (actionOf instruction) n (elapsedOf (actionOf instruction) log p)
+turnOf family enable slot flags log p (Decoded.Refused why) = unfetched family slot flags p why

@@ -1,30 +1,76 @@
 -- Demand 3: the one claim about the defined verdict, of code whose elements are bytes; and its number. Assumes nothing.
-use Prim.Native.Nat.{ℕ, suc, _<_, _^_}
-use mathlib.Core.Path.{_≡_, refl}
-use mathlib.Core.Bool.{Bool, true, false, cond, not}
+use Prim.Native.Nat.{ℕ, suc, _+_, _<_, _^_}
+use mathlib.Core.Path.{_≡_, refl, sym, ap, subst, _∙_}
+use mathlib.Core.Logic.{inl, inr}
+use mathlib.Core.Bool.{Bool, true, false, cond, not, _&&_}
 use mathlib.Core.List.{List}
 use native.Mathlib.Omega.{arith}
 use lib.ListN.{getD}
-use Rattle.families.specs.Family.{codeSize}
+use Rattle.families.specs.Family.{codeSize, pausesMemory}
 use Rattle.isa.proofs.Tests.{both-left, cond-elim}
 use Rattle.refusals.specs.declared.refusals.Fault.{Fault}
-use Rattle.verdict.specs.Auditor.{verdictNumber, faultAt, knowNothing, verdictIn, auditOf, auditNumber}
-use Rattle.verdict.specs.Demand3.{VerdictMeans, Demand3}
+use Rattle.log.specs.Log.{Log}
+use Rattle.log.proofs.ValidLaws.{valid-row-start}
+use Rattle.actions.specs.declared.actions.Action.{Action}
+use Rattle.state.specs.Slot.{slotOf}
+use Rattle.state.specs.declared.slots.SlotName.{SlotName}
+use Rattle.turn.specs.Turn.{effectOf, performOf}
 use Rattle.script.specs.Input.{scriptFits, rangesFit, inputFits}
-use Rattle.run.specs.Run.{begun}
+use Rattle.script.proofs.Scripts.{Script, fits-script, Auditable}
+use Rattle.run.specs.Run.{Run, begun, nextStep, runFor}
+use Rattle.run.specs.SlotRun.{SlotRun, nextTurn, slotRunOf}
+use Rattle.verdict.specs.Auditor.{verdictNumber, faultAt, knowNothing, verdictIn, auditOf, auditNumber}
+use Rattle.verdict.specs.Demand3.{Orderly, Exact, Safe, VerdictMeans, Demand3}
 use Rattle.verdict.specs.declared.verdicts.Knowledge.{Knowledge}
 use Rattle.verdict.specs.declared.verdicts.Verdict.{Verdict}
-use Rattle.script.proofs.Scripts.{Script, Log, fits-script, Auditable}
-use Rattle.run.proofs.Runs.{run-snoc}
-use Rattle.verdict.proofs.Walk.{Walk, Ends, at-refused, at-bad, at-exit, Walked, audit-walks}
-use Rattle.verdict.proofs.Soundness.{earlier, exit-step, sound}
 use Rattle.verdict.proofs.Cases.{never}
+use Rattle.verdict.proofs.Going.{sceneUnder, performs}
+use Rattle.verdict.proofs.Walk.{Walk, Ends, at-refused, at-bad, at-exit, Walked, audit-walks}
+use Rattle.verdict.proofs.Soundness.{Exited, Stands, goes, waits, exits, sound}
 use Rattle.verdict.proofs.Endings.{ends-well}
 use Rattle.verdict.proofs.SameWrites.{same-writes}
-use Rattle.verdict.proofs.WitnessLog.{actions, witnessLog, witness-valid, witness-masks, bounded, bounded-start, reach}
-use Rattle.verdict.proofs.Starts.{begun-agrees, starts-in}
-use Rattle.verdict.proofs.Faults.{refused, blamed}
+use Rattle.verdict.proofs.WitnessLog.{actions, witnessLog, witness-valid, witness-masks, bounded, bounded-start}
+use Rattle.verdict.proofs.Starts.{begun-agrees, slot-follows, effect-follows, starts-in}
+use Rattle.verdict.proofs.Faults.{exited, refused, blamed}
 use Rattle.verdict.proofs.ReplayLaws.{replay-tells}
+
+orderly-effect : (action : Action) (addr word : ℕ) → Orderly (effectOf action true addr word)
+orderly-effect (Action.Wait n) addr word = tt
+orderly-effect (Action.Ewait event value) addr word = tt
+orderly-effect (Action.Flag change flag) addr word = tt
+orderly-effect (Action.Load part operand) addr word = tt
+orderly-effect (Action.Poke part operand) addr word = tt
+orderly-effect Action.Exit addr word = tt
+
+-- ---- a state's run, from what it shows of the slot
+
+module _ (x : Script) (entry : ℕ) {q : ℕ} {l : Knowledge} (unpaused : (pausesMemory (x .family) && l .paused) ≡ false) (name : SlotName) (r : Run) where
+  exact-in : Exited x q l (slotRunOf name r) → Exact (x .family) (x .code) (x .marks) entry (x .ranges) name q (l .count + 1) (l .writes) (l .clocks) r
+  exact-in h = record {
+    exit = record { idle = h .idle; ip = h .ip; memory-runs = h .paused ∙ unpaused };
+    counted = h .counted;
+    wrote = h .wrote;
+    waited = h .waited;
+  }
+
+  safe-in : (log : Log) (n : ℕ) → nextStep name log r .effect ≡ nextTurn (sceneUnder x log) (slotRunOf name r) .effect → Stands x log q l n (slotRunOf name r)
+      → Safe (x .family) (x .code) (x .marks) entry (x .ranges) name q (l .count + 1) (l .writes) (l .clocks) log n r
+  unfolding performOf
+  safe-in log n does (goes {action = action} e g h) = record {
+    listed = g .listed;
+    orderly = rw (does, performs x true log (g .going) e) (orderly-effect action (slotOf (r .state) name .addr .0) (slotOf (r .state) name .«data»));
+    ended = λ b. absurd (omega (arith, e .some, e .inside));
+    exact = λ m. never (cc (g .going .runs));
+  }
+  safe-in log n does (waits h) = record {
+    listed = h .listed;
+    orderly = rw (does, h .waiting) tt;
+    ended = λ _. inr (record { waits = h .waiting; row = h .row; used = h .used });
+    exact = λ m. never (cc (h .waiting));
+  }
+  safe-in log n does (exits h) = record { listed = h .listed; orderly = rw (does, h .idle) tt; ended = λ _. inl (exact-in h .exit); exact = λ _. exact-in h }
+
+-- ---- what the walk comes to
 
 module _ (x : Script) (entry : ℕ) (fit : Auditable x entry) (fits-so : scriptFits (x .family) (x .code) (x .marks) entry ≡ true) where
   -- what the end of the walk means
@@ -32,30 +78,25 @@ module _ (x : Script) (entry : ℕ) (fit : Auditable x entry) (fits-so : scriptF
   ended w (at-refused why e) = refused x entry fit w why e
   ended w (at-bad action n fault e b) = blamed x entry fit w action n fault e b
   ended {q} {k} w (at-exit n e unpaused) = record {
-    safe = λ name s start clocks known values valid m.
-        let log : Log = record { clocks = clocks; known = known; values = values } in
-        earlier x entry name log (omega arith)
-        (sound x entry name log e unpaused w (begun-agrees x entry (fit .fits) name s start log valid) m);
-    same-writes = λ name name′ s s′ start start′ clocks known values valid m.
-        let log : Log = record { clocks = clocks; known = known; values = values } in
-        same-writes x log name name′ entry e unpaused w (begun-agrees x entry (fit .fits) name s start log valid) (begun-agrees x entry (fit .fits) name′ s′ start′ log valid)
-        (record { place = refl; writes = refl; held = λ h. never (cc) }) m;
+    safe = λ name s start log valid m.
+        let same = slot-follows x entry start (fit .fits) log valid m in
+        let does = effect-follows x entry start (fit .fits) log valid m ∙ ap (λ (r : SlotRun). nextTurn (sceneUnder x log) r .effect) (sym same) in
+        let stands = sound x log e valid w (begun-agrees x entry start) (valid-row-start log valid 0 (omega arith)) m m (omega arith) in
+        safe-in x entry unpaused name (runFor name log m (begun s)) log m does (subst (Stands x log q k m) (sym same) stands);
+    same-writes = λ name name′ s s′ start start′ log valid m.
+        ap (λ (r : SlotRun). r .writes) (slot-follows x entry start (fit .fits) log valid m)
+        ∙ same-writes x log e w (begun-agrees x entry start) (begun-agrees x entry start′) (record { place = refl; writes = refl; held = λ h. never (cc) }) m
+        ∙ sym (ap (λ (r : SlotRun). r .writes) (slot-follows x entry start′ (fit .fits) log valid m));
     bounded = omega (arith, bounded w bounded-start .count, e .some, e .inside);
-    reaches = λ name s start.
-        let log = witnessLog x w in
-        let valid = witness-valid x w in (
-          log .clocks,
-          log .known,
-          log .values,
-          suc (actions x w),
-          valid,
-          witness-masks x w,
-          rw (run-snoc name (log .clocks) (log .known) (log .values) (actions x w) (begun s))
-              (exit-step x entry name log e unpaused (reach x name w (begun-agrees x entry (fit .fits) name s start log valid)) .exact .exit),
-        );
-    replays = replay-tells (x .family) (x .code) (x .marks) entry (x .ranges) fits-so;
-    ends = λ addr word flags0 flags1 enable clocks known values valid.
-        ends-well x entry (fit .fits) e w addr word flags0 flags1 enable (record { clocks = clocks; known = known; values = values }) valid;
+    reaches = λ name s start. (
+      witnessLog x w,
+      suc (actions x w),
+      witness-valid x w,
+      witness-masks x w,
+      exact-in x entry unpaused name (runFor name (witnessLog x w) (suc (actions x w)) (begun s)) (exited x entry fit w start e) .exit,
+    );
+    replays = replay-tells x entry fits-so;
+    ends = ends-well x entry e w;
   }
 
   walked : VerdictMeans (x .family) (x .code) (x .marks) entry (x .ranges) (verdictIn (codeSize (x .family)) (x .family) (x .code) (x .marks) (x .ranges) entry knowNothing)
@@ -81,7 +122,7 @@ demand3 family code marks entry ranges bytes = record {
       (λ i. walked x entry (auditable i) (fits i))
       (λ i. (i, refl));
   input = λ i. rw i refl;
-  replays = replay-tells family code marks entry ranges;
+  replays = replay-tells x entry;
   starts = λ i. starts-in x entry (auditable i);
 }
   where

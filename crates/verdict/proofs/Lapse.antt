@@ -7,6 +7,7 @@ use native.Mathlib.Omega.{arith}
 use lib.ListN.{length}
 use borrow.Author.Tests.{eqb-true, eqb-false}
 use Rattle.ewaits.specs.Ewait.{ewaitOf}
+use Rattle.log.specs.Log.{Log}
 use Rattle.log.specs.Validity.{validPlace}
 use Rattle.waits.specs.Wait.{waitOf}
 use Rattle.ewaits.specs.declared.ewait.Released.{Released}
@@ -22,31 +23,28 @@ use Rattle.turn.specs.declared.turn.Effect.{Effect}
 use Rattle.verdict.specs.Auditor.{waitLength}
 use Rattle.verdict.proofs.Cases.{never}
 
-pub record Lapse (clocks : List ℕ) (action : Action) (e : Elapsed) : Type 0 where
+pub record Lapse (clocks : List ℕ) (action : Action) (p : Place) (e : Elapsed) : Type 0 where
   pub waited : e .finished ≡ true → e .waited ≡ waitLength action
-  pub row : e .finished ≡ false → e .place .row ≡ length clocks
-  pub used : e .finished ≡ false → e .place .used ≡ 0
   pub mode : e .finished ≡ false → modeAfter action true false ≡ Mode.Waiting
   pub quiet : e .finished ≡ false → (addr word : ℕ) → effectOf action true addr word ≡ Effect.Done
+  pub end : validPlace clocks p ≡ true → e .finished ≡ false → (e .place .row ≡ length clocks) × (e .place .used ≡ 0)
 
-module _ (clocks known values : List ℕ) where
-  ewait-lapse : (event value : ℕ) (r : Released) → Lapse clocks (Action.Ewait event value) (afterEwait (length clocks) r)
-  ewait-lapse event value (Released.At p n) = record { waited = λ _. refl; row = λ f. never (cc); used = λ f. never (cc); mode = λ f. refl; quiet = λ f addr word. refl }
-  ewait-lapse event value (Released.End n) = record { waited = λ f. never (cc); row = λ _. refl; used = λ _. refl; mode = λ _. refl; quiet = λ _ addr word. refl }
+module _ (log : Log) where
+  ewait-lapse : (event value : ℕ) (p : Place) (r : Released) → Lapse (log .clocks) (Action.Ewait event value) p (afterEwait (length (log .clocks)) r)
+  ewait-lapse event value p (Released.At q n) = record { waited = λ _. refl; mode = λ _. refl; quiet = λ _ addr word. refl; end = λ v f. never (cc) }
+  ewait-lapse event value p (Released.End n) = record { waited = λ f. never (cc); mode = λ _. refl; quiet = λ _ addr word. refl; end = λ v _. (refl, refl) }
 
-  pub lapse : (action : Action) (p : Place) → validPlace clocks p ≡ true → Lapse clocks action (elapsedOf action clocks known values p)
-  lapse (Action.Wait n) p v =
-      let w = waitOf clocks p n in
-      let end = cut-at-end clocks p n (row-within clocks p v) in
+  pub lapse : (action : Action) (p : Place) → Lapse (log .clocks) action p (elapsedOf action log p)
+  lapse (Action.Wait n) p =
+      let w = waitOf (log .clocks) p n in
       record {
         waited = λ f. omega (arith, eqb-true (w .cut) 0 f);
-        row = λ f. end (let h = eqb-false (w .cut) 0 f in omega arith) .0;
-        used = λ f. end (let h = eqb-false (w .cut) 0 f in omega arith) .1;
         mode = λ _. refl;
         quiet = λ _ addr word. refl;
+        end = λ v f. let h = eqb-false (w .cut) 0 f in cut-at-end (log .clocks) p n (row-within (log .clocks) p v) (omega arith);
       }
-  lapse (Action.Ewait event value) p v = ewait-lapse event value (ewaitOf clocks known values p event value)
-  lapse (Action.Flag change flag) p v = record { waited = λ _. refl; row = λ f. never (cc); used = λ f. never (cc); mode = λ f. never (cc); quiet = λ f addr word. refl }
-  lapse (Action.Load part word) p v = record { waited = λ _. refl; row = λ f. never (cc); used = λ f. never (cc); mode = λ f. never (cc); quiet = λ f addr word. refl }
-  lapse (Action.Poke part word) p v = record { waited = λ _. refl; row = λ f. never (cc); used = λ f. never (cc); mode = λ f. never (cc); quiet = λ f addr word. never (cc) }
-  lapse Action.Exit p v = record { waited = λ _. refl; row = λ f. never (cc); used = λ f. never (cc); mode = λ f. never (cc); quiet = λ f addr word. refl }
+  lapse (Action.Ewait event value) p = ewait-lapse event value p (ewaitOf log p event value)
+  lapse (Action.Flag change flag) p = record { waited = λ _. refl; mode = λ f. never (cc); quiet = λ _ addr word. refl; end = λ v f. never (cc) }
+  lapse (Action.Load part word) p = record { waited = λ _. refl; mode = λ f. never (cc); quiet = λ _ addr word. refl; end = λ v f. never (cc) }
+  lapse (Action.Poke part word) p = record { waited = λ _. refl; mode = λ f. never (cc); quiet = λ f addr word. never (cc); end = λ v f. never (cc) }
+  lapse Action.Exit p = record { waited = λ _. refl; mode = λ f. never (cc); quiet = λ _ addr word. refl; end = λ v f. never (cc) }

@@ -1,6 +1,6 @@
 pub mod Cases
 pub mod FlagLaws
-pub mod Steady
+pub mod Going
 pub mod Lapse
 pub mod Judging
 pub mod Walk

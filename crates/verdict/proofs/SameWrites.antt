@@ -1,27 +1,27 @@
 -- Runs of a passed script from any two starts, under one log, write the same step for step: no poke needs what ADDR or DATA held before. Assumes nothing.
-use Prim.Native.Nat.{ℕ, zero, suc, _+_}
-use mathlib.Core.Path.{_≡_, refl, sym, ap, _∙_}
-use mathlib.Core.Bool.{Bool, true, false, _&&_}
-use mathlib.Core.List.{List}
-use Rattle.families.specs.Family.{pausesMemory}
+use Prim.Native.Nat.{ℕ, zero, suc}
+use mathlib.Core.Path.{_≡_, refl, ap, ap₂, _∙_}
+use mathlib.Core.Logic.{⊎-elim}
+use mathlib.Core.Bool.{Bool, true, false}
+use mathlib.Core.List.{_++_}
+use Rattle.log.specs.Log.{Log}
+use Rattle.log.specs.declared.place.Place.{Place}
 use Rattle.actions.specs.Action.{mergeOf}
 use Rattle.actions.specs.declared.actions.Action.{Action}
 use Rattle.actions.specs.declared.actions.Part.{Part}
-use Rattle.state.specs.Slot.{isRunning, slotOf}
-use Rattle.state.specs.declared.slots.SlotName.{SlotName}
-use Rattle.state.proofs.SlotLaws.{slot-back}
+use Rattle.state.specs.Slot.{isRunning}
+use Rattle.state.specs.declared.slots.Mode.{Mode}
 use Rattle.time.specs.Time.{elapsedOf}
-use Rattle.time.specs.declared.elapsed.Elapsed.{Elapsed}
 use Rattle.turn.specs.Turn.{dataAfter, effectOf, performOf}
-use Rattle.run.specs.Run.{Run, Write, wroteBy, runFor}
-use Rattle.script.proofs.Scripts.{Script, Log, Reads}
+use Rattle.run.specs.Run.{wroteBy}
+use Rattle.run.specs.SlotRun.{Scene, SlotRun, slotRunFor}
+use Rattle.script.proofs.Scripts.{Script, Reads}
 use Rattle.verdict.specs.Auditor.{loadsBoth, knownData, knowNext}
 use Rattle.verdict.specs.declared.verdicts.Knowledge.{Knowledge}
-use Rattle.verdict.proofs.Steady.{next, steps, SteadyRun, run-rests}
-use Rattle.verdict.proofs.Judging.{Fine}
+use Rattle.verdict.proofs.Cases.{either}
+use Rattle.verdict.proofs.Going.{sceneUnder, next, run-rests, performs, mode-then}
 use Rattle.verdict.proofs.Walk.{Walk, here, more}
-use Rattle.verdict.proofs.Agreement.{Agree, performs, next-place, goes-on, held-up}
-use Rattle.verdict.proofs.Soundness.{exit-step}
+use Rattle.verdict.proofs.Agreement.{Agree, goes-on, waits-then}
 
 -- with both halves set, DATA is the same after an action
 load-same : (part : Part) (operand word word′ : ℕ) (halves : Bool) → (halves ≡ true → word ≡ word′) → loadsBoth part halves ≡ true → mergeOf part word operand ≡ mergeOf part word′ operand
@@ -36,66 +36,42 @@ word-same (Action.Load part operand) halves word word′ h = load-same part oper
 word-same (Action.Poke part operand) halves word word′ h = h
 word-same Action.Exit halves word word′ h = h
 
-module _ (x : Script) (log : Log) (name name′ : SlotName) where
+module _ (x : Script) (log : Log) where
+  abbrev scene : Scene
+  scene = sceneUnder x log
+
   -- two runs that are at one place in the log, have written the same, and hold the same DATA where the script has set it
-  pub record Same (k : Knowledge) (r r′ : Run) : Type 0 where
+  pub record Same (k : Knowledge) (r r′ : SlotRun) : Type 0 where
     pub place : r .place ≡ r′ .place
     pub writes : r .writes ≡ r′ .writes
-    pub held : k .«data» ≡ true → slotOf (r .state) name .«data» ≡ slotOf (r′ .state) name′ .«data»
+    pub held : k .«data» ≡ true → r .slot .«data» ≡ r′ .slot .«data»
 
-  module _ {addr word addr′ word′ p n : ℕ} {k : Knowledge} {r r′ : Run} {action : Action} (g : Agree x name log addr word p k r) (g′ : Agree x name′ log addr′ word′ p k r′)
-      (e : Reads x p action n) (s : Same k r r′) where
-    abbrev wrote : Run → SlotName → List Write
-    wrote run slot = wroteBy (effectOf action true (slotOf (run .state) slot .addr .0) (slotOf (run .state) slot .«data»))
+  next-same : {addr word addr′ word′ p n : ℕ} {k : Knowledge} {r r′ : SlotRun} {action : Action} → Agree x addr word p k r → Agree x addr′ word′ p k r′
+      → Reads x p action n → Same k r r′
+      → wroteBy (effectOf action true (r .slot .addr .0) (r .slot .«data»)) ≡ wroteBy (effectOf action true (r′ .slot .addr .0) (r′ .slot .«data»))
+      → Same (knowNext action k) (next scene r) (next scene r′)
+  unfolding performOf
+  next-same {k = k} {r = r} {r′ = r′} {action = action} g g′ e s h =
+      rw (performs x true log (g .going) e, performs x true log (g′ .going) e) (record {
+        place = ap (λ (p : Place). elapsedOf action log p .place) (s .place);
+        writes = ap₂ _++_ (s .writes) h;
+        held = word-same action (k .«data») (r .slot .«data») (r′ .slot .«data») (s .held);
+      })
 
-    next-writes : wrote r name ≡ wrote r′ name′ → next name log r .writes ≡ next name′ log r′ .writes
-    unfolding performOf
-    next-writes h = rw (performs x name log g e, performs x name′ log g′ e, s .writes, h) refl
+  -- two runs that no turn moves any more
+  rest : {mode : Mode} → isRunning mode ≡ false → (m : ℕ) (r r′ : SlotRun) → r .slot .mode ≡ mode → r′ .slot .mode ≡ mode → r .writes ≡ r′ .writes
+      → slotRunFor scene m r .writes ≡ slotRunFor scene m r′ .writes
+  rest still m r r′ e e′ h = rw (run-rests scene r (ap isRunning e ∙ still) m, run-rests scene r′ (ap isRunning e′ ∙ still) m) h
 
-    elapsed-same : elapsedOf action (log .clocks) (log .known) (log .values) (r .place) ≡ elapsedOf action (log .clocks) (log .known) (log .values) (r′ .place)
-    elapsed-same = ap (elapsedOf action (log .clocks) (log .known) (log .values)) (s .place)
-
-    next-held : knownData action (k .«data») ≡ true → slotOf (next name log r .state) name .«data» ≡ slotOf (next name′ log r′ .state) name′ .«data»
-    unfolding performOf
-    next-held h =
-        rw (performs x name log g e, performs x name′ log g′ e, slot-back, slot-back)
-        (word-same action (k .«data») (slotOf (r .state) name .«data») (slotOf (r′ .state) name′ .«data») (s .held) h)
-
-    next-same : Fine (x .family) (x .ranges) action k → Same (knowNext action k) (next name log r) (next name′ log r′)
-    next-same f = record {
-      place = next-place x name log g e ∙ ap (λ (t : Elapsed). t .place) elapsed-same ∙ sym (next-place x name′ log g′ e);
-      writes = next-writes (f .writes addr addr′ (slotOf (r .state) name .addr .0) (slotOf (r′ .state) name′ .addr .0) (slotOf (r .state) name .«data») (slotOf (r′ .state) name′ .«data») (g .held) (g′ .held) (s .held));
-      held = next-held;
-    }
-
-  -- two runs that no step moves any more
-  rest : (m : ℕ) (r r′ : Run) → SteadyRun x name log r → SteadyRun x name′ log r′ → isRunning (slotOf (r .state) name .mode) ≡ false → isRunning (slotOf (r′ .state) name′ .mode) ≡ false
-      → r .writes ≡ r′ .writes → steps name log m r .writes ≡ steps name′ log m r′ .writes
-  rest m r r′ k k′ h h′ e =
-      rw (run-rests x name log r k h m, run-rests x name′ log r′ k′ h′ m) e
-
-  module _ (entry : ℕ) {q m : ℕ} {l : Knowledge} (e : Reads x q Action.Exit m) (unpaused : (pausesMemory (x .family) && l .paused) ≡ false) where
-    pub same-writes : {addr word addr′ word′ p : ℕ} {k : Knowledge} {r r′ : Run} → Walk x p k q l → Agree x name log addr word p k r → Agree x name′ log addr′ word′ p k r′ → Same k r r′
-        → (n : ℕ) → steps name log n r .writes ≡ steps name′ log n r′ .writes
-    unfolding runFor
-    same-writes w g g′ s zero = s .writes
-    same-writes {r = r} {r′ = r′} here g g′ s (suc n) =
-        let t = exit-step x entry name log e unpaused g in
-        let t′ = exit-step x entry name′ log e unpaused g′ in
-        rest n (next name log r) (next name′ log r′) (t .steady) (t′ .steady) (ap isRunning (t .exact .exit .idle)) (ap isRunning (t′ .exact .exit .idle)) (next-writes g g′ e s refl)
-    same-writes {addr} {word} {addr′} {word′} {p} {k} {r} {r′} (more action t f j w) g g′ s (suc n) = by (time .finished) refl (λ h h′. same-writes w h h′ (next-same g g′ f s j) n)
-      where
-        time : Elapsed
-        time = elapsedOf action (log .clocks) (log .known) (log .values) (r .place)
-
-        finished : (b : Bool) → time .finished ≡ b → elapsedOf action (log .clocks) (log .known) (log .values) (r′ .place) .finished ≡ b
-        finished b d = ap (λ (y : Elapsed). y .finished) (sym (elapsed-same g g′ f s)) ∙ d
-
-        by : (b : Bool) → time .finished ≡ b
-            → (Agree x name log addr word (p + t) (knowNext action k) (next name log r) → Agree x name′ log addr′ word′ (p + t) (knowNext action k) (next name′ log r′) → steps name log n (next name log r) .writes ≡ steps name′ log n (next name′ log r′) .writes)
-            → steps name log n (next name log r) .writes ≡ steps name′ log n (next name′ log r′) .writes
-        by true d later = later (goes-on x name log g f j d) (goes-on x name′ log g′ f j (finished true d))
-        by false d later =
-            let h = held-up x name log g f j d in
-            let h′ = held-up x name′ log g′ f j (finished false d) in
-            rest n (next name log r) (next name′ log r′) (h .steady) (h′ .steady) (ap isRunning (h .waiting)) (ap isRunning (h′ .waiting)) (next-same g g′ f s j .writes)
+  pub same-writes : {addr word addr′ word′ p q m : ℕ} {k l : Knowledge} {r r′ : SlotRun} → Reads x q Action.Exit m → Walk x p k q l
+      → Agree x addr word p k r → Agree x addr′ word′ p k r′ → Same k r r′ → (n : ℕ) → slotRunFor scene n r .writes ≡ slotRunFor scene n r′ .writes
+  unfolding slotRunFor
+  same-writes e w g g′ s zero = s .writes
+  same-writes {r = r} {r′ = r′} e here g g′ s (suc n) =
+      rest refl n (next scene r) (next scene r′) (mode-then x true log (g .going) e) (mode-then x true log (g′ .going) e) (next-same g g′ e s refl .writes)
+  same-writes {addr} {word} {addr′} {word′} {r = r} {r′ = r′} e (more action t f j w) g g′ s (suc n) =
+      let wrote = j .writes addr addr′ (r .slot .addr .0) (r′ .slot .addr .0) (r .slot .«data») (r′ .slot .«data») (g .held) (g′ .held) (s .held) in
+      let same = next-same g g′ f s wrote in
+      ⊎-elim (λ d. same-writes e w (goes-on x log g f j d) (goes-on x log g′ f j (rw (s .place) at d)) same n)
+      (λ d. rest refl n (next scene r) (next scene r′) (waits-then x log g f j d) (waits-then x log g′ f j (rw (s .place) at d)) (same .writes))
+      (either (elapsedOf action log (r .place) .finished))

@@ -1,17 +1,17 @@
--- Starts: every start fetches as audited and agrees with an auditor that knows nothing, and there is one for each ADDR and DATA. Assumes nothing.
+-- Starts: every start agrees with an auditor that knows nothing and holds the audited script, and there is one for each ADDR and DATA. Assumes nothing.
 use Prim.Native.Nat.{ℕ, zero, suc, _-_, _^_, _<_}
-use mathlib.Core.Path.{_≡_, refl, sym, _∙_}
+use mathlib.Core.Path.{_≡_, refl, sym, ap, _∙_}
 use mathlib.Core.Bool.{true, and-false}
 use mathlib.Core.List.{List, [], _∷_, _++_}
 use native.Mathlib.Omega.{arith}
 use lib.Dec.{leb, lit<}
 use lib.ListN.{length, getD, replicate}
 use borrow.Author.Tests.{leb-true}
-use Rattle.families.specs.Family.{pausesMemory}
+use Rattle.families.specs.Family.{knownFamily, pausesMemory}
 use Rattle.isa.proofs.Tests.{both-left, both-right, bounds}
-use Rattle.fetch.specs.Fetch.{fetchOf}
 use Rattle.fetch.proofs.FetchLaws.{same-fetch}
 use Rattle.fetch.proofs.Places.{size-small}
+use Rattle.log.specs.Log.{Log, logOf}
 use Rattle.log.specs.Validity.{validLog}
 use Rattle.flags.specs.Flags.{overrides1}
 use Rattle.state.specs.Slot.{hasSlot, slotOf}
@@ -20,34 +20,23 @@ use Rattle.state.specs.declared.state.State.{State}
 use Rattle.state.proofs.SlotLaws.{has-a}
 use Rattle.verdict.specs.Auditor.{knowNothing}
 use Rattle.script.specs.Input.{marksPlain}
-use Rattle.run.specs.Replay.{replayState}
-use Rattle.run.specs.Run.{begun}
+use Rattle.machine.specs.declared.steps.Stepped.{Stepped}
+use Rattle.run.specs.Run.{begun, nextStep, runFor}
 use Rattle.verdict.specs.Start.{InType, Start}
-use Rattle.script.proofs.Scripts.{Script, Log, Fits, Auditable}
-use Rattle.run.proofs.Filled.{filled-size, filled-marks, filled-code}
-use Rattle.verdict.proofs.Steady.{SteadyRun, steady-from}
+use Rattle.script.proofs.Scripts.{Script, Fits, Auditable}
+use Rattle.run.specs.SlotRun.{slotBegun, nextTurn, slotRunFor, slotRunOf, Holds}
+use Rattle.run.specs.Replay.{slotAtEntry}
+use Rattle.run.proofs.Held.{filled-size, stateWith, filled-marks, filled-code}
+use Rattle.run.proofs.InState.{run-back, follows, next-follows}
+use Rattle.verdict.proofs.Going.{sceneUnder}
 use Rattle.verdict.proofs.Agreement.{Agree}
-
--- ---- what is fetched from a start
-
-module _ (family : ℕ) (code marks : List ℕ) (entry : ℕ) (fit : Fits family code marks entry) where
-  pub start-fetches : (name : SlotName) (s : State) → Start family code marks entry name s → (at : ℕ) → fetchOf family (s .code) (s .marks) at ≡ fetchOf family code marks at
-  start-fetches name s start =
-      same-fetch family code marks (s .code) (s .marks) (omega (arith, fit .code-size)) (omega (arith, size-small family, start .in-type .code-size)) (start .uploaded) (start .as-audited)
 
 -- ---- every start
 
-module _ (x : Script) (entry : ℕ) (fit : Fits (x .family) (x .code) (x .marks) entry) (name : SlotName) (s : State) (start : Start (x .family) (x .code) (x .marks) entry name s)
-    (log : Log) (valid : validLog (log .clocks) (log .known) (log .values) ≡ true) where
-  pub begun-steady : SteadyRun x name log (begun s)
-  begun-steady = steady-from x name log s (fit .known) (start .slot-there) valid (start .same-family) (start-fetches (x .family) (x .code) (x .marks) entry fit name s start)
-
-  pub begun-agrees : Agree x name log (slotOf s name .addr .0) (slotOf s name .«data») entry knowNothing (begun s)
+module _ (x : Script) (entry : ℕ) {name : SlotName} {s : State} (start : Start (x .family) (x .code) (x .marks) entry name s) where
+  pub begun-agrees : Agree x (slotOf s name .addr .0) (slotOf s name .«data») entry knowNothing (slotBegun (slotOf s name) (s .flags))
   begun-agrees = record {
-    steady = begun-steady;
-    enabled = start .enabled;
-    going = start .executing;
-    ip = start .at-entry;
+    going = record { runs = start .executing; ip = start .at-entry };
     held = refl;
     high = λ _. refl;
     paused = start .not-paused ∙ sym (and-false (pausesMemory (x .family)));
@@ -56,6 +45,30 @@ module _ (x : Script) (entry : ℕ) (fit : Fits (x .family) (x .code) (x .marks)
     waits = refl;
     listed = tt;
   }
+
+  -- its turns read the script, whatever bytes were never uploaded
+  module _ (fit : Fits (x .family) (x .code) (x .marks) entry) (log : Log) where
+    pub holds : Holds (sceneUnder x log) (slotOf s name) (s .flags) name s
+    holds =
+        let fetches = same-fetch (x .family) (x .code) (x .marks) (s .code) (s .marks) (omega (arith, fit .code-size))
+        (omega (arith, size-small (x .family), start .in-type .code-size)) (start .uploaded) (start .as-audited) in
+        record {
+          known-family = ap knownFamily (start .same-family) ∙ fit .known;
+          slot-there = rw (start .same-family) (start .slot-there);
+          same-scene = record { family = start .same-family; enable = start .enabled; log = refl; fetches = λ at. rw (start .same-family) (fetches at) };
+          same-slot = refl;
+          same-flags = refl;
+        }
+
+    module _ (valid : validLog log ≡ true) (n : ℕ) where
+      -- so its steps show the slot's own run
+      pub slot-follows : slotRunOf name (runFor name log n (begun s)) ≡ slotRunFor (sceneUnder x log) n (slotBegun (slotOf s name) (s .flags))
+      slot-follows = ap (slotRunOf name) (follows (sceneUnder x log) (slotOf s name) (s .flags) name s holds valid n) ∙ run-back s name _
+
+      -- and do what its turns do
+      pub effect-follows : nextStep name log (runFor name log n (begun s)) .effect
+          ≡ nextTurn (sceneUnder x log) (slotRunFor (sceneUnder x log) n (slotBegun (slotOf s name) (s .flags))) .effect
+      effect-follows = ap (λ (t : Stepped). t .effect) (next-follows (sceneUnder x log) (slotOf s name) (s .flags) name s holds valid n)
 
 -- ---- some start
 
@@ -76,7 +89,7 @@ plain-bytes (m ∷ marks) p (suc i) = plain-bytes marks (both-right (leb m 1) (m
 
 -- slot A runs the script with this ADDR and DATA, all else is fresh
 abbrev pub someState : Script → ℕ → ℕ → ℕ → State
-someState x entry addr word = replayState (x .family) (x .code) (x .marks) entry addr word 0 0 true
+someState x entry addr word = stateWith (sceneUnder x (logOf [] [] [])) (slotAtEntry entry addr word) (record { values = 0; enables = 0 })
 
 module _ (x : Script) (entry : ℕ) (fit : Auditable x entry) (addr word : ℕ) (small-addr : addr < 2 ^ 32) (small-word : word < 2 ^ 32) where
   some-in-type : InType (someState x entry addr word)
@@ -103,8 +116,8 @@ module _ (x : Script) (entry : ℕ) (fit : Auditable x entry) (addr word : ℕ) 
     in-type = some-in-type;
     same-family = refl;
     slot-there = has-a (x .family) (fit .fits .known);
-    uploaded = filled-marks (x .family) (x .code) (x .marks) entry (fit .fits);
-    as-audited = λ i h _. filled-code (x .family) (x .code) (x .marks) entry (fit .fits) i h;
+    uploaded = filled-marks (sceneUnder x (logOf [] [] [])) (fit .fits);
+    as-audited = λ i h _. filled-code (sceneUnder x (logOf [] [] [])) (fit .fits) i h;
     executing = refl;
     at-entry = refl;
     other-idle = λ _. refl;

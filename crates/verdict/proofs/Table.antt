@@ -6,17 +6,16 @@ use Rattle.isa.specs.Reader.{decodeOf}
 use Rattle.isa.specs.Wait.{waitClocks}
 use Rattle.fetch.specs.Fetch.{allMarked, fetchOf}
 use Rattle.ewaits.specs.Ewait.{hasReading, searchIn}
-use Rattle.log.specs.Validity.{validLog, validPlace}
-use Rattle.machine.specs.Step.{advanceOf, stepOf}
+use Rattle.log.specs.Validity.{validLog}
 use Rattle.turn.specs.Turn.{performOf}
 use Rattle.script.specs.Input.{scriptFits, rangesFit}
-use Rattle.run.specs.Replay.{replayOf}
-use Rattle.run.specs.Run.{runFor}
+use Rattle.run.specs.Replay.{runAnswerOf}
+use Rattle.run.specs.SlotRun.{slotRunFor}
 use Rattle.verdict.specs.Auditor.{canRelease, verdictIn, auditOf}
 use Rattle.verdict.specs.Starred.{Starred}
 
 pub starred : Starred
-unfolding auditOf scriptFits rangesFit byFamily verdictIn fetchOf allMarked decodeOf opcodeAt waitClocks canRelease replayOf validLog validPlace runFor stepOf advanceOf performOf searchIn hasReading
+unfolding auditOf scriptFits rangesFit byFamily verdictIn fetchOf allMarked decodeOf opcodeAt waitClocks canRelease runAnswerOf validLog slotRunFor performOf searchIn hasReading
 starred = (
   refl,
   refl,

@@ -11,6 +11,7 @@ use Rattle.families.specs.Family.{codeSize}
 use Rattle.isa.proofs.Tests.{both-left, both-right}
 use Rattle.fetch.proofs.Places.{size-small}
 use Rattle.ewaits.specs.Ewait.{hasReading, searchFrom, in64}
+use Rattle.log.specs.Log.{Log, logOf}
 use Rattle.log.specs.Validity.{rowsInRange, validLog}
 use Rattle.ewaits.specs.declared.ewait.Released.{Released}
 use Rattle.log.specs.declared.place.Place.{Place}
@@ -18,19 +19,21 @@ use Rattle.ewaits.proofs.EwaitLaws.{FoundBy, search-finds}
 use Rattle.waits.proofs.WaitLaws.{wait-in}
 use Rattle.time.specs.Time.{afterEwait, elapsedOf}
 use Rattle.actions.specs.declared.actions.Action.{Action}
-use Rattle.state.specs.declared.slots.SlotName.{SlotName}
-use Rattle.state.specs.declared.state.State.{State}
+use Rattle.flags.specs.declared.flags.Flags.{Flags}
+use Rattle.state.specs.declared.slots.Slot.{Slot}
 use Rattle.time.specs.declared.elapsed.Elapsed.{Elapsed}
+use Rattle.turn.specs.Turn.{performOf}
+use Rattle.turn.specs.declared.turn.Turn.{Turn}
 use Rattle.verdict.specs.Auditor.{canRelease, waitLength, knowNext, knowNothing}
 use Rattle.verdict.specs.Start.{MasksInType}
-use Rattle.run.specs.Run.{Run, begun, runFor}
+use Rattle.run.specs.SlotRun.{SlotRun, slotBegun, slotRunFor}
 use Rattle.verdict.specs.declared.verdicts.Knowledge.{Knowledge}
 use Rattle.verdict.proofs.Cases.{never, below-at}
-use Rattle.script.proofs.Scripts.{Script, Log, Formed}
-use Rattle.verdict.proofs.Steady.{steps}
+use Rattle.script.proofs.Scripts.{Script, Formed}
+use Rattle.verdict.proofs.Going.{sceneUnder, performs}
 use Rattle.verdict.proofs.Judging.{Fine}
 use Rattle.verdict.proofs.Walk.{Walk, here, more}
-use Rattle.verdict.proofs.Agreement.{Agree, goes-on, next-place}
+use Rattle.verdict.proofs.Agreement.{Agree, goes-on}
 
 -- ---- the rows made for a walk: one with nothing known, then one for each ewait
 
@@ -98,7 +101,7 @@ rows-long (suc n) = rows-long n
 
 module _ (x : Script) where
   pub witness-valid : {p q : ℕ} {k l : Knowledge} (w : Walk x p k q l)
-      → validLog (witnessLog x w .clocks) (witnessLog x w .known) (witnessLog x w .values) ≡ true
+      → validLog (witnessLog x w) ≡ true
   unfolding validLog
   witness-valid w =
       let n = suc (length (knownRows x w)) in
@@ -123,8 +126,12 @@ mask-more : (mask : ℕ) (rest : List ℕ) → mask < 2 ^ 32 → ((i : ℕ) → 
 mask-more mask rest h r zero = h
 mask-more mask rest h r (suc i) = r i
 
+-- of masks alone
+abbrev Masks : List ℕ → List ℕ → Type 0
+Masks known values = MasksInType (logOf [] known values)
+
 row-masks : (action : Action) (known values : List ℕ) → ((event value : ℕ) → action ≡ Action.Ewait event value → canRelease event value ≡ true)
-    → MasksInType known values → MasksInType (knownRow action known) (valueRow action values)
+    → Masks known values → Masks (knownRow action known) (valueRow action values)
 row-masks (Action.Wait n) known values c m = m
 row-masks (Action.Ewait event value) known values c m =
     let h = row-mask event value (c event value refl) in
@@ -135,11 +142,11 @@ row-masks (Action.Poke part word) known values c m = m
 row-masks Action.Exit known values c m = m
 
 module _ (x : Script) where
-  rows-masks : {p q : ℕ} {k l : Knowledge} (w : Walk x p k q l) → MasksInType (knownRows x w) (valueRows x w)
+  rows-masks : {p q : ℕ} {k l : Knowledge} (w : Walk x p k q l) → Masks (knownRows x w) (valueRows x w)
   rows-masks here = record { known-bits = λ i. lit< tt; value-bits = λ i. lit< tt }
   rows-masks (more action n e f w) = row-masks action (knownRows x w) (valueRows x w) (f .event) (rows-masks w)
 
-  pub witness-masks : {p q : ℕ} {k l : Knowledge} (w : Walk x p k q l) → MasksInType (witnessLog x w .known) (witnessLog x w .values)
+  pub witness-masks : {p q : ℕ} {k l : Knowledge} (w : Walk x p k q l) → MasksInType (witnessLog x w)
   witness-masks w =
       let m = rows-masks w in
       record { known-bits = mask-more 0 (knownRows x w) (lit< tt) (m .known-bits); value-bits = mask-more 0 (valueRows x w) (lit< tt) (m .value-bits) }
@@ -199,7 +206,7 @@ module _ (log : Log) (full : LongRows log) where
   -- any action judged fine
   finishes : (family : ℕ) (ranges : List ℕ) (action : Action) (k : Knowledge) (p : Place) (known values : List ℕ) → Fine family ranges action k
       → p .used + waitLength action < 2 ^ 48 → Ahead log p (knownRow action known) (valueRow action values)
-      → Finished log (p .used + waitLength action) known values (elapsedOf action (log .clocks) (log .known) (log .values) p)
+      → Finished log (p .used + waitLength action) known values (elapsedOf action log p)
   finishes family ranges (Action.Wait n) k p known values f h a =
       rw (wait-in (log .clocks) (p .row) (p .used) n (omega (arith, a .later, a .room)) (omega (arith, full .long (p .row) (omega (arith, a .later, a .room)))))
       (record { finished = refl; used-most = omega arith; ahead = record { at = a .at; later = a .later; room = a .room; knows = a .knows; reads = a .reads } })
@@ -208,8 +215,8 @@ module _ (log : Log) (full : LongRows log) where
       let e = drop-first (a .at) (log .values) (value * 2 ^ event) values (a .reads) in
       let there : hasReading (getD (log .known) (a .at) 0) (getD (log .values) (a .at) 0) event value ≡ true = rw (d .0, e .0) (row-reads event value (f .event event value refl)) in
       let inside : a .at < length (log .clocks) = omega (arith, d .2, full .even) in
-      ewait-finished known values event value (a .at) (p .used) (searchFrom (log .clocks) (log .known) (log .values) event value (p .row) (p .used))
-      (search-finds (log .clocks) (log .known) (log .values) event value (a .at) inside there (p .row) (p .used) (omega (arith, a .later)))
+      ewait-finished known values event value (a .at) (p .used) (searchFrom log event value (p .row) (p .used))
+      (search-finds log event value (a .at) inside there (p .row) (p .used) (omega (arith, a .later)))
       inside (d .1) (e .1)
   finishes family ranges (Action.Flag change flag) k p known values f h a = record { finished = refl; used-most = omega arith; ahead = a }
   finishes family ranges (Action.Load part word) k p known values f h a = record { finished = refl; used-most = omega arith; ahead = a }
@@ -242,30 +249,30 @@ bounded (more action n e f w) b = bounded w (bounded-next action (e .formed) (e 
 pub bounded-start : {entry : ℕ} → Bounded entry knowNothing
 bounded-start = record { count = omega arith; clocks = omega arith }
 
-module _ (x : Script) (name : SlotName) (log : Log) (full : LongRows log) where
-  reach-on : {addr word p q : ℕ} {k l : Knowledge} {r : Run} (w : Walk x p k q l) → Agree x name log addr word p k r → Bounded p k → r .place .used ≤ r .waits
-      → Ahead log (r .place) (knownRows x w) (valueRows x w) → Agree x name log addr word q l (steps name log (actions x w) r)
-  unfolding runFor
+module _ (x : Script) (log : Log) (full : LongRows log) where
+  reach-on : {addr word p q : ℕ} {k l : Knowledge} {r : SlotRun} (w : Walk x p k q l) → Agree x addr word p k r → Bounded p k → r .place .used ≤ r .waits
+      → Ahead log (r .place) (knownRows x w) (valueRows x w) → Agree x addr word q l (slotRunFor (sceneUnder x log) (actions x w) r)
+  unfolding slotRunFor performOf
   reach-on here g b u a = g
   reach-on {r = r} (more {k = k} action n e f w) g b u a =
       let short = wait-short action (e .formed) in
       let t = finishes log full (x .family) (x .ranges) action k (r .place) (knownRows x w) (valueRows x w) f
       (omega (arith, g .waits, b .count, b .clocks, e .some, e .inside, size-small (x .family))) a in
-      let g′ = goes-on x name log g e f (t .finished) in
-      let same = next-place x name log g e in
+      let g′ = goes-on x log g e f (t .finished) in
+      let same = ap (λ (turn : Turn). turn .place) (performs x true log (g .going) e) in
       reach-on w g′ (bounded-next action (e .formed) (e .some) b)
       (rw same (omega (arith, t .used-most, g .waits, g′ .waits))) (rw same (t .ahead))
 
 -- a start, under the log made for a walk from it, comes to where the walk ends
-module _ (x : Script) (name : SlotName) {entry q : ℕ} {l : Knowledge} (w : Walk x entry knowNothing q l) where
+module _ (x : Script) {entry q : ℕ} {l : Knowledge} (w : Walk x entry knowNothing q l) where
   long-rows : LongRows (witnessLog x w)
   long-rows = record {
     long = λ i h. getD-replicate (suc (length (knownRows x w))) i (2 ^ 48) 0 (rw (length-replicate (suc (length (knownRows x w))) (2 ^ 48)) at h);
     even = sym (length-replicate (suc (length (knownRows x w))) (2 ^ 48));
   }
 
-  pub reach : {addr word : ℕ} {s : State} → Agree x name (witnessLog x w) addr word entry knowNothing (begun s)
-      → Agree x name (witnessLog x w) addr word q l (steps name (witnessLog x w) (actions x w) (begun s))
+  pub reach : {addr word : ℕ} {slot : Slot} {flags : Flags} → Agree x addr word entry knowNothing (slotBegun slot flags)
+      → Agree x addr word q l (slotRunFor (sceneUnder x (witnessLog x w)) (actions x w) (slotBegun slot flags))
   reach g =
-      reach-on x name (witnessLog x w) long-rows w g bounded-start (omega arith)
+      reach-on x (witnessLog x w) long-rows w g bounded-start (omega arith)
       (record { at = 1; later = omega arith; room = omega arith; knows = refl; reads = refl })

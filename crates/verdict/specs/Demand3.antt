@@ -6,30 +6,25 @@ use mathlib.Core.Bool.{Bool, true, false}
 use mathlib.Core.List.{List, [], _∷_}
 use lib.ListN.{length}
 use Rattle.families.specs.Family.{codeSize}
-use Rattle.isa.specs.declared.addresses.CodeAddress.{CodeAddress}
-use Rattle.isa.specs.declared.addresses.MmioAddress.{MmioAddress}
 use Rattle.refusals.specs.declared.refusals.Unreadable.{Unreadable}
+use Rattle.log.specs.Log.{Log}
 use Rattle.log.specs.Validity.{validLog}
-use Rattle.log.specs.declared.place.Place.{Place}
-use Rattle.flags.specs.Flags.{pausedOf, flagsWord0, flagsWord1}
-use Rattle.state.specs.Slot.{hasSlot, slotOf, withSlot}
+use Rattle.flags.specs.Flags.{pausedOf, flagsWord0, flagsWord1, flagsFromWords}
 use Rattle.flags.specs.declared.flags.Flags.{Flags}
+use Rattle.state.specs.Slot.{hasSlot, slotOf, withSlot}
 use Rattle.state.specs.declared.slots.Mode.{Mode}
-use Rattle.state.specs.declared.slots.Slot.{Slot}
 use Rattle.state.specs.declared.slots.SlotName.{SlotName}
 use Rattle.state.specs.declared.state.State.{State}
-use Rattle.machine.specs.declared.steps.Stepped.{Stepped}
-use Rattle.refusals.specs.declared.refusals.Unsteppable.{Unsteppable}
 use Rattle.turn.specs.declared.turn.Effect.{Effect}
 use Rattle.script.specs.Input.{listedIn, scriptFits, inputFits}
 use Rattle.run.specs.Run.{Run, Write, begun, nextStep, runFor}
-use Rattle.run.specs.Replay.{maxEntries, toldOf, fullRun, replayOf, replayedRun}
+use Rattle.run.specs.SlotRun.{sceneFor, slotRunOf}
+use Rattle.run.specs.Replay.{maxEntries, fullSlotRun, fullRun, progressOf, endingOf, toldOf, slotAtEntry, replayOf}
 use Rattle.verdict.specs.Start.{Start, MasksInType}
 use Rattle.refusals.specs.declared.refusals.Fault.{Fault}
 use Rattle.verdict.specs.declared.verdicts.Verdict.{Verdict}
 use Rattle.run.specs.declared.answers.Ending.{Ending}
 use Rattle.run.specs.declared.answers.ReplayAnswer.{ReplayAnswer}
-use Rattle.run.specs.declared.answers.Replayed.{Replayed}
 
 -- every address written is listed
 abbrev pub AllListed : List ℕ → List Write → Type 0
@@ -78,9 +73,9 @@ module _ (family : ℕ) (code marks : List ℕ) (entry : ℕ) (ranges : List ℕ
       pub memory-runs : pausedOf family (r .state .flags) ≡ false
 
     -- in a wait with the log used up
-    pub record InWait (clocks : List ℕ) (r : Run) : Type 0 where
+    pub record InWait (log : Log) (r : Run) : Type 0 where
       pub waits : slotOf (r .state) name .mode ≡ Mode.Waiting
-      pub row : r .place .row ≡ length clocks
+      pub row : r .place .row ≡ length (log .clocks)
       pub used : r .place .used ≡ 0
 
     -- the numbers of the verdict are the run's
@@ -91,49 +86,50 @@ module _ (family : ℕ) (code marks : List ℕ) (entry : ℕ) (ranges : List ℕ
       pub waited : r .waits ≡ waitClocks
 
     -- what holds of a run of a passed script after n steps
-    pub record Safe (place count writes waitClocks : ℕ) (clocks known values : List ℕ) (n : ℕ) (r : Run) : Type 0 where
+    pub record Safe (place count writes waitClocks : ℕ) (log : Log) (n : ℕ) (r : Run) : Type 0 where
       -- "wrote only listed addresses"
       pub listed : AllListed ranges (r .writes)
       -- "met no unknown opcode, never left the uploaded code", none of its steps refused: said of the next step, after any number of steps
-      pub orderly : Orderly (nextStep name clocks known values r .effect)
+      pub orderly : Orderly (nextStep name log r .effect)
       -- "ends at exit with memory running or in a wait with the log used up"
-      pub ended : codeSize family ≤ n → (AtExit place r) ⊎ (InWait clocks r)
+      pub ended : codeSize family ≤ n → (AtExit place r) ⊎ (InWait log r)
       -- "with exactly the reported place and counts"
       pub exact : slotOf (r .state) name .mode ≡ Mode.Idle → Exact place count writes waitClocks r
 
   -- replay of a start's values, with entries enough lent, tells the run's own ending, state, place, steps and sums, and its writes in order
-  abbrev pub ReplayTells : SlotName → State → List ℕ → List ℕ → List ℕ → ℕ → Type 0
-  ReplayTells name s clocks known values lent =
-      (replayOf family code marks entry (slotOf s name .addr .0) (slotOf s name .«data») (flagsWord0 (s .flags)) (flagsWord1 (s .flags)) true clocks known values lent
-      ≡ ReplayAnswer.Ended (toldOf name clocks (fullRun name clocks known values s)))
-      × (replayedRun family code marks entry (slotOf s name .addr .0) (slotOf s name .«data») (flagsWord0 (s .flags)) (flagsWord1 (s .flags)) true clocks known values .writes
-      ≡ fullRun name clocks known values s .writes)
+  abbrev pub ReplayTells : SlotName → State → Log → ℕ → Type 0
+  ReplayTells name s log lent =
+      let x = sceneFor family code marks true log in
+      let slot = slotAtEntry entry (slotOf s name .addr .0) (slotOf s name .«data») in
+      let flags = flagsFromWords (flagsWord0 (s .flags)) (flagsWord1 (s .flags)) in
+      (replayOf x slot flags lent ≡ ReplayAnswer.Ended (toldOf (log .clocks) (progressOf (slotRunOf name (fullRun name log s)))))
+      × (fullSlotRun x slot flags .writes ≡ fullRun name log s .writes)
 
   -- of every start and every log
   abbrev pub ReplayTellsAll : Type 0
-  ReplayTellsAll = (name : SlotName) (s : State) → Start family code marks entry name s → (clocks known values : List ℕ) → validLog clocks known values ≡ true
-      → (lent : ℕ) → maxEntries ≤ lent → ReplayTells name s clocks known values lent
+  ReplayTellsAll = (name : SlotName) (s : State) → Start family code marks entry name s → (log : Log) → validLog log ≡ true
+      → (lent : ℕ) → maxEntries ≤ lent → ReplayTells name s log lent
 
   -- what a pass means
   pub record PassMeans (place count writes waitClocks : ℕ) : Type 0 where
     -- "from every start, under every log, after any number of steps"
-    pub safe : (name : SlotName) (s : State) → Start family code marks entry name s → (clocks known values : List ℕ) → validLog clocks known values ≡ true
-        → (n : ℕ) → Safe name place count writes waitClocks clocks known values n (runFor name clocks known values n (begun s))
+    pub safe : (name : SlotName) (s : State) → Start family code marks entry name s → (log : Log) → validLog log ≡ true
+        → (n : ℕ) → Safe name place count writes waitClocks log n (runFor name log n (begun s))
     -- what it writes is its own: under one log, equally many steps from any two starts have written the same
     pub same-writes : (name name′ : SlotName) (s s′ : State) → Start family code marks entry name s → Start family code marks entry name′ s′
-        → (clocks known values : List ℕ) → validLog clocks known values ≡ true
-        → (n : ℕ) → runFor name clocks known values n (begun s) .writes ≡ runFor name′ clocks known values n (begun s′) .writes
+        → (log : Log) → validLog log ≡ true
+        → (n : ℕ) → runFor name log n (begun s) .writes ≡ runFor name′ log n (begun s′) .writes
     -- each instruction takes a byte of the code RAM at least
     pub bounded : count ≤ codeSize family
     -- "some log brings it to exit"
     pub reaches : (name : SlotName) (s : State) → Start family code marks entry name s
-        → (clocks : List ℕ) × (known : List ℕ) × (values : List ℕ) × (n : ℕ) × (validLog clocks known values ≡ true) × (MasksInType known values)
-        × (AtExit name place (runFor name clocks known values n (begun s)))
+        → (log : Log) × (n : ℕ) × (validLog log ≡ true) × (MasksInType log)
+        × (AtExit name place (runFor name log n (begun s)))
     -- "replay answers what the steps give"
     pub replays : ReplayTellsAll
-    -- a job may start it with HWSQ_ENABLE 0 or memory paused, which no start is: replay ends at exit, with the log or at a poke all the same
-    pub ends : (addr word flags0 flags1 : ℕ) (enable : Bool) (clocks known values : List ℕ) → validLog clocks known values ≡ true
-        → EndsWell (toldOf SlotName.A clocks (replayedRun family code marks entry addr word flags0 flags1 enable clocks known values) .ending)
+    -- a job may start it with HWSQ_ENABLE 0 or memory paused, which no start is: it ends at exit, with the log or at a poke all the same
+    pub ends : (addr word : ℕ) (flags : Flags) (enable : Bool) (log : Log)
+        → EndsWell (endingOf (fullSlotRun (sceneFor family code marks enable log) (slotAtEntry entry addr word) flags .slot .mode))
 
   -- ---- what a fault means: a run that shows it
 
@@ -142,22 +138,20 @@ module _ (family : ℕ) (code marks : List ℕ) (entry : ℕ) (ranges : List ℕ
     pub name : SlotName
     pub start : State
     pub starts : Start family code marks entry name start
-    pub clocks : List ℕ
-    pub known : List ℕ
-    pub values : List ℕ
-    pub log : validLog clocks known values ≡ true
-    pub masks : MasksInType known values
+    pub log : Log
+    pub valid : validLog log ≡ true
+    pub masks : MasksInType log
     pub steps : ℕ
 
   abbrev pub runOf : Witness → Run
-  runOf w = runFor (w .name) (w .clocks) (w .known) (w .values) (w .steps) (begun (w .start))
+  runOf w = runFor (w .name) (w .log) (w .steps) (begun (w .start))
 
   -- its next step: what it did, and the run after it
   abbrev pub nextEffect : Witness → Effect
-  nextEffect w = nextStep (w .name) (w .clocks) (w .known) (w .values) (runOf w) .effect
+  nextEffect w = nextStep (w .name) (w .log) (runOf w) .effect
 
   abbrev pub runAfter : Witness → Run
-  runAfter w = runFor (w .name) (w .clocks) (w .known) (w .values) (suc (w .steps)) (begun (w .start))
+  runAfter w = runFor (w .name) (w .log) (suc (w .steps)) (begun (w .start))
 
   -- some log brings a start to the place, and its next step has the effect
   abbrev pub Shows : ℕ → (Effect → Type 0) → Type 0
@@ -166,9 +160,7 @@ module _ (family : ℕ) (code marks : List ℕ) (entry : ℕ) (ranges : List ℕ
   -- two starts, one log, equally many steps: both at the place, and they write differently there
   pub record WriteDifferently (place : ℕ) (one two : Witness) : Type 0 where
     pub same-slot : one .name ≡ two .name
-    pub same-clocks : one .clocks ≡ two .clocks
-    pub same-known : one .known ≡ two .known
-    pub same-values : one .values ≡ two .values
+    pub same-log : one .log ≡ two .log
     pub same-steps : one .steps ≡ two .steps
     pub first : AtPlace (one .name) place (runOf one)
     pub second : AtPlace (two .name) place (runOf two)
@@ -205,9 +197,9 @@ module _ (family : ℕ) (code marks : List ℕ) (entry : ℕ) (ranges : List ℕ
   -- 7: some log brings a run there, its step waits, and no log lets a run from any start fetch again after that step
   FaultMeans Fault.Unreleased place =
       ((w : Witness) × (AtPlace (w .name) place (runOf w)) × (slotOf (runAfter w .state) (w .name) .mode ≡ Mode.Waiting))
-      × ((name : SlotName) (s : State) → Start family code marks entry name s → (clocks known values : List ℕ) → validLog clocks known values ≡ true
-      → (n : ℕ) → AtPlace name place (runFor name clocks known values n (begun s))
-      → (m : ℕ) → Fetchless (nextStep name clocks known values (runFor name clocks known values (suc (n + m)) (begun s)) .effect))
+      × ((name : SlotName) (s : State) → Start family code marks entry name s → (log : Log) → validLog log ≡ true
+      → (n : ℕ) → AtPlace name place (runFor name log n (begun s))
+      → (m : ℕ) → Fetchless (nextStep name log (runFor name log (suc (n + m)) (begun s)) .effect))
   -- 8: it exits there with memory paused
   FaultMeans Fault.Paused place = (w : Witness) × (AtPlace (w .name) place (runOf w))
       × (slotOf (runAfter w .state) (w .name) .mode ≡ Mode.Idle) × (slotOf (runAfter w .state) (w .name) .ip .0 ≡ place) × (pausedOf family (runAfter w .state .flags) ≡ true)

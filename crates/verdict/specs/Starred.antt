@@ -5,13 +5,14 @@ use mathlib.Core.Bool.{true}
 use mathlib.Core.List.{List, [], _∷_, _++_}
 use lib.ListN.{length, replicate}
 use Rattle.families.specs.Family.{codeSize}
-use Rattle.isa.specs.declared.addresses.CodeAddress.{CodeAddress}
+use Rattle.log.specs.Log.{logOf}
+use Rattle.flags.specs.Flags.{flagsFromWords}
 use Rattle.refusals.specs.Number.{faultNumber}
 use Rattle.refusals.specs.declared.refusals.Fault.{Fault}
-use Rattle.run.specs.Replay.{maxEntries, replayOf}
+use Rattle.run.specs.SlotRun.{sceneFor}
+use Rattle.run.specs.Replay.{maxEntries, slotAtEntry, replayOf}
 use Rattle.run.specs.declared.answers.Ending.{Ending}
 use Rattle.run.specs.declared.answers.ReplayAnswer.{ReplayAnswer}
-use Rattle.run.specs.declared.answers.Replayed.{Replayed}
 use Rattle.verdict.specs.Auditor.{auditOf}
 use Rattle.verdict.specs.declared.verdicts.Verdict.{Verdict}
 
@@ -37,7 +38,9 @@ lastByte byte = replicate 127 0 ++ (byte ∷ [])
 
 -- replay of `5f01007f` under one row with these masks
 abbrev pub replayOn : ℕ → ℕ → ReplayAnswer
-replayOn known values = replayOf 2 (0x5f ∷ 0x01 ∷ 0x00 ∷ 0x7f ∷ replicate 124 0) (replicate 128 1) 0 0 0 0 0 true (1 ∷ []) (known ∷ []) (values ∷ []) maxEntries
+replayOn known values =
+    let x = sceneFor 2 (0x5f ∷ 0x01 ∷ 0x00 ∷ 0x7f ∷ replicate 124 0) (replicate 128 1) true (logOf (1 ∷ []) (known ∷ []) (values ∷ [])) in
+    replayOf x (slotAtEntry 0 0 0) (flagsFromWords 0 0) maxEntries
 
 abbrev pub ends : ReplayAnswer → Ending → Type 0
 ends (ReplayAnswer.Ended told) ending = told .ending ≡ ending

@@ -6,15 +6,13 @@ use mathlib.Core.List.{List}
 use lib.ListN.{length, getD}
 use lib.Dec.{eqb}
 use Rattle.families.specs.Family.{codeSize}
-use Rattle.isa.specs.declared.addresses.CodeAddress.{CodeAddress}
-use Rattle.isa.specs.declared.addresses.MmioAddress.{MmioAddress}
 use Rattle.flags.specs.Flags.{pausedOf}
 use Rattle.state.specs.Slot.{hasSlot, otherOf, slotOf}
-use Rattle.flags.specs.declared.flags.Flags.{Flags}
 use Rattle.state.specs.declared.slots.Mode.{Mode}
 use Rattle.state.specs.declared.slots.Slot.{Slot}
 use Rattle.state.specs.declared.slots.SlotName.{SlotName}
 use Rattle.state.specs.declared.state.State.{State}
+use Rattle.log.specs.Log.{Log}
 
 -- every number fits its type in the code
 pub record SlotInType (slot : Slot) : Type 0 where
@@ -36,9 +34,9 @@ pub record InType (s : State) : Type 0 where
   pub b : SlotInType (s .b)
 
 -- the same of a log's masks; its clocks are bounded by validLog
-pub record MasksInType (known values : List ℕ) : Type 0 where
-  pub known-bits : (i : ℕ) → getD known i 0 < 2 ^ 32
-  pub value-bits : (i : ℕ) → getD values i 0 < 2 ^ 32
+pub record MasksInType (log : Log) : Type 0 where
+  pub known-bits : (i : ℕ) → getD (log .known) i 0 < 2 ^ 32
+  pub value-bits : (i : ℕ) → getD (log .values) i 0 < 2 ^ 32
 
 -- a start in the named slot
 pub record Start (family : ℕ) (code marks : List ℕ) (entry : ℕ) (name : SlotName) (s : State) : Type 0 where

@@ -6,6 +6,7 @@ use mathlib.Core.List.{List}
 use native.Mathlib.Nat.{add-assoc, mod-add-mod}
 use native.Mathlib.Omega.{arith}
 use lib.ListN.{length, getD}
+use Rattle.log.specs.Log.{Log}
 use Rattle.log.specs.Validity.{validLog}
 use Rattle.log.specs.declared.place.Place.{Place}
 use Rattle.log.proofs.ValidLaws.{rows-most, row-most}
@@ -35,15 +36,15 @@ module _ (clocks : List ℕ) (row used : ℕ) where
 
 -- ---- of a valid log
 
-module _ (clocks known values : List ℕ) (valid : validLog clocks known values ≡ true) where
-  left-in-most : (n row used : ℕ) → leftIn n clocks row used ≤ n * 2 ^ 48
+module _ (log : Log) (valid : validLog log ≡ true) where
+  left-in-most : (n row used : ℕ) → leftIn n (log .clocks) row used ≤ n * 2 ^ 48
   unfolding leftIn
   left-in-most zero row used = omega arith
-  left-in-most (suc n) row used = omega (arith, row-most clocks known values valid row, left-in-most n (row + 1) 0)
+  left-in-most (suc n) row used = omega (arith, row-most log valid row, left-in-most n (row + 1) 0)
 
   -- 1,024 rows of 2^48 clocks
-  pub left-most : (p : Place) → leftOf clocks p ≤ 1024 * 2 ^ 48
-  left-most p = omega (arith, left-in-most (length clocks - p .row) (p .row) (p .used), rows-most clocks known values valid)
+  pub left-most : (p : Place) → leftOf (log .clocks) p ≤ 1024 * 2 ^ 48
+  left-most p = omega (arith, left-in-most (length (log .clocks) - p .row) (p .row) (p .used), rows-most log valid)
 
-  pub left-fits : (p : Place) → leftOf clocks p < 2 ^ 64
+  pub left-fits : (p : Place) → leftOf (log .clocks) p < 2 ^ 64
   left-fits p = omega (arith, left-most p)

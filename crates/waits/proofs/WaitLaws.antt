@@ -8,6 +8,7 @@ use native.Mathlib.Omega.{arith}
 use lib.ListN.{length, getD}
 use borrow.Author.Tests.{lt-ltb, le-ltb}
 use Rattle.waits.specs.Left.{leftFrom, leftOf}
+use Rattle.log.specs.Log.{Log}
 use Rattle.log.specs.Validity.{validLog, validPlace}
 use Rattle.waits.specs.Wait.{waitIn, waitFrom, waitOf, Waits}
 use Rattle.log.specs.declared.place.Place.{Place}
@@ -80,14 +81,14 @@ cut-at-end clocks p n =
     (p .row) (p .used) n
 
 -- a wait ends at a place of the log, a finished one and one that was cut
-pub wait-valid : (clocks known values : List ℕ) → validLog clocks known values ≡ true → (p : Place) (n : ℕ) → validPlace clocks p ≡ true
-    → validPlace clocks (waitOf clocks p n .place) ≡ true
-wait-valid clocks known values valid p n v =
-    wait-elim clocks (λ row used n w. row ≤ length clocks → validPlace clocks (w .place) ≡ true)
-    (λ row used n h l. let e : row ≡ length clocks = omega arith in rw e (valid-at-end clocks))
-    (λ row used n h l m. valid-in-row clocks row (used + n) h (omega arith))
+pub wait-valid : (log : Log) → validLog log ≡ true → (p : Place) (n : ℕ) → validPlace (log .clocks) p ≡ true
+    → validPlace (log .clocks) (waitOf (log .clocks) p n .place) ≡ true
+wait-valid log valid p n v =
+    wait-elim (log .clocks) (λ row used n w. row ≤ length (log .clocks) → validPlace (log .clocks) (w .place) ≡ true)
+    (λ row used n h l. let e : row ≡ length (log .clocks) = omega arith in rw e (valid-at-end (log .clocks)))
+    (λ row used n h l m. valid-in-row (log .clocks) row (used + n) h (omega arith))
     (λ row used n w h l k m. k (omega arith))
-    (p .row) (p .used) n (row-within clocks p v)
+    (p .row) (p .used) n (row-within (log .clocks) p v)
 
 -- all that a wait promises
 pub waits : (clocks : List ℕ) (p : Place) (n : ℕ) (answer : Waited) → answer ≡ waitOf clocks p n → Waits clocks p n answer

@@ -6,6 +6,7 @@ use native.Mathlib.Nat.{mod-lt}
 use lib.Dec.{lit<}
 use lib.ListN.{length, getD}
 use borrow.Author.Needs.{needs}
+use Rattle.log.specs.Log.{Log, logOf}
 use Rattle.ewaits.specs.Ewait.{hasReading, in64, passing, searchFrom}
 use Rattle.ewaits.proofs.EwaitLaws.{in64-start, in64-end, in64-here, in64-next, ewaits}
 use Rattle.ewaits.proofs.ewait.event_wait.Statement.{statement}
@@ -13,10 +14,15 @@ use Rattle.ewaits.proofs.ewait.event_wait.Tie as tie
 
 abbrev Inv-loop : tie.InvT-loop
 Inv-loop clocks known values event value row₀ used₀ passed₀ row used passed =
-    (in64 (passing passed (searchFrom clocks known values event value row used)) ≡ in64 (passing 0 (searchFrom clocks known values event value row₀ used₀))) × (passed < 2 ^ 64)
+    let log = logOf clocks known values in
+    (in64 (passing passed (searchFrom log event value row used)) ≡ in64 (passing 0 (searchFrom log event value row₀ used₀))) × (passed < 2 ^ 64)
 
 abbrev μ-loop : tie.MeasureT-loop
 μ-loop clocks known values event value row₀ used₀ passed₀ row used passed = length clocks - row
+
+-- the log that was lent
+abbrev logged : tie.At-loop Inv-loop μ-loop → Log
+logged l = let a = l .before .before .before .before .args in logOf (now (a .clocks)) (now (a .known)) (now (a .values))
 
 -- the row's test, as the definition has it
 tested : (c : tie.After-has-reading Inv-loop μ-loop)
@@ -34,9 +40,11 @@ loop-again c =
     let l = inside .before in
     let a = l .before .before .before .before .args in
     let v = l .loop in
-    let sum : c .wrapping-add-u64 .result ≡ (v .passed + (getD (now (a .clocks)) (v .row) 0 - v .used)) % 2 ^ 64 = c .wrapping-add-u64 .ensures ∙ ap (λ (x : ℕ). (v .passed + x) % 2 ^ 64) (c .before .unused .ensures) in (
-      ap (λ (x : ℕ). in64 (passing x (searchFrom (now (a .clocks)) (now (a .known)) (now (a .values)) (a .event) (a .value) (v .row + 1) 0))) sum
-          ∙ (sym (in64-next (now (a .clocks)) (now (a .known)) (now (a .values)) (a .event) (a .value) (v .row) (v .used) (v .passed) (inside .if1 .left) (sym (tested (t .before)) ∙ t .if2 .left)) ∙ v .inv .0),
+    let log = logged l in
+    let sum : c .wrapping-add-u64 .result ≡ (v .passed + (getD (now (a .clocks)) (v .row) 0 - v .used)) % 2 ^ 64
+    = c .wrapping-add-u64 .ensures ∙ ap (λ (x : ℕ). (v .passed + x) % 2 ^ 64) (c .before .unused .ensures) in (
+      ap (λ (x : ℕ). in64 (passing x (searchFrom log (a .event) (a .value) (v .row + 1) 0))) sum
+          ∙ sym (in64-next log (a .event) (a .value) (v .row) (v .used) (v .passed) (inside .if1 .left) (sym (tested (t .before)) ∙ t .if2 .left)) ∙ v .inv .0,
       subst (λ (x : ℕ). x < 2 ^ 64) (sym sum) (mod-lt (v .passed + (getD (now (a .clocks)) (v .row) 0 - v .used)) (lit< tt)),
     )
 
@@ -45,7 +53,8 @@ returns c =
     let l = c .before in
     let a = l .before .before .before .before .args in
     let v = l .loop in
-    ewaits _ _ _ _ _ _ _ (sym (in64-end (now (a .clocks)) (now (a .known)) (now (a .values)) (a .event) (a .value) (v .row) (v .used) (v .passed) (v .inv .1) (c .if1 .taken)) ∙ (v .inv .0 ∙ in64-start (now (a .clocks)) (now (a .known)) (now (a .values)) (a .event) (a .value) (a .at)))
+    let end = in64-end (logged l) (a .event) (a .value) (v .row) (v .used) (v .passed) (v .inv .1) (c .if1 .taken) in
+    ewaits _ _ _ _ _ (sym end ∙ (v .inv .0 ∙ in64-start (logged l) (a .event) (a .value) (a .at)))
 
 returns-2 : tie.Need-returns-2 Inv-loop μ-loop
 returns-2 c =
@@ -53,7 +62,9 @@ returns-2 c =
     let l = inside .before in
     let a = l .before .before .before .before .args in
     let v = l .loop in
-    ewaits _ _ _ _ _ _ _ (sym (in64-here (now (a .clocks)) (now (a .known)) (now (a .values)) (a .event) (a .value) (v .row) (v .used) (v .passed) (v .inv .1) (inside .if1 .left) (sym (tested (c .before)) ∙ c .if2 .taken)) ∙ (v .inv .0 ∙ in64-start (now (a .clocks)) (now (a .known)) (now (a .values)) (a .event) (a .value) (a .at)))
+    let test = sym (tested (c .before)) ∙ c .if2 .taken in
+    let here = in64-here (logged l) (a .event) (a .value) (v .row) (v .used) (v .passed) (v .inv .1) (inside .if1 .left) test in
+    ewaits _ _ _ _ _ (sym here ∙ (v .inv .0 ∙ in64-start (logged l) (a .event) (a .value) (a .at)))
 
 pub event-wait-spec : {M : Type 1} → statement M
 event-wait-spec =

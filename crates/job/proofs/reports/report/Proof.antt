@@ -1,7 +1,7 @@
 -- Every report has room in the lent bytes. Assumes nothing.
 use denote.Ref.{now}
 use Prim.Native.Nat.{ℕ, _≤_}
-use mathlib.Core.Path.{_≡_, subst}
+use mathlib.Core.Path.{_≡_, ap, subst, _∙_}
 use mathlib.Core.List.{List}
 use native.Mathlib.Omega.{arith}
 use lib.ListN.{length}
@@ -10,19 +10,22 @@ use Rattle.text.specs.Put.{Stored}
 use Rattle.records.specs.Reader.{readOf}
 use Rattle.records.specs.declared.reader.JobRead.{JobRead}
 use Rattle.job.specs.Lines.{refusedLine}
-use Rattle.job.specs.Report.{jobLines, reportOf, Reports}
+use Rattle.job.specs.Report.{jobLines, reportOf, TellsSteps, Reports}
+use Rattle.job.specs.Inside.{ReadyToRun}
 use Rattle.text.proofs.PutLaws.{whole, counts, stored-as}
 use Rattle.job.proofs.Lengths.{refused-length, job-length}
+use Rattle.job.proofs.JobRuns.{tells-steps}
 use borrow.Author.Needs.{needs}
 use Rattle.job.proofs.reports.report.Statement.{statement}
 use Rattle.job.proofs.reports.report.Tie as tie
 
 -- the defined report, at the start of the lent bytes
-reports : (bytes old : List ℕ) {t : List ℕ} {r : ℕ} {new : List ℕ} → t ≡ reportOf bytes → length t ≤ 65536 → length old ≡ 65536 → Stored old 0 t r new → Reports bytes old new r
-reports bytes old e fits size h =
+reports : (bytes old : List ℕ) {t : List ℕ} {r : ℕ} {new : List ℕ} → t ≡ reportOf bytes → length t ≤ 65536 → length old ≡ 65536 → Stored old 0 t r new
+    → (readOf bytes .number ≡ 0 → TellsSteps (readOf bytes .job)) → Reports bytes old new r
+reports bytes old e fits size h steps =
     let room : length (reportOf bytes) ≤ length old = subst (λ (t : List ℕ). length t ≤ length old) e (omega arith) in
     let w = whole old (reportOf bytes) room (stored-as old 0 e h) in
-    record { answered = w .0; contents = w .1; counted = counts old (reportOf bytes) room (stored-as old 0 e h) }
+    record { answered = w .0; contents = w .1; counted = counts old (reportOf bytes) room (stored-as old 0 e h); stepped = steps }
 
 refusal-is : (bytes : List ℕ) (read : JobRead) → read ≡ readOf bytes → (read .number ≡ 0 → ⊥) → refusedLine (read .number) (read .at) ≡ reportOf bytes
 unfolding reportOf
@@ -34,18 +37,28 @@ job-is bytes read e z = rw (← e) (simp (eq-eqb (read .number) 0 z))
 
 returns : tie.Need-returns
 returns c =
-    let a = c .before .before .before .before .before .args in
-    let read = c .before .before .before .read-job in
-    reports (now (a .job)) (now (a .out)) (refusal-is (now (a .job)) (read .result) (read .ensures .answered) (c .before .before .if1 .taken)) (omega (arith, refused-length (read .result .number) (read .result .at))) (c .put-refused .ensures .1) (c .put-refused .ensures .0)
+    let faulty = c .before .before in
+    let read = faulty .before .read-job in
+    let a = faulty .before .before .before .args in
+    reports (now (a .job)) (now (a .out)) (refusal-is (now (a .job)) (read .result) (read .ensures .answered) (faulty .if1 .taken))
+    (omega (arith, refused-length (read .result .number) (read .result .at))) (c .put-refused .ensures .1) (c .put-refused .ensures .0)
+    (λ z. absurd (faulty .if1 .taken (ap (λ (r : JobRead). r .number) (read .ensures .answered) ∙ z)))
+
+-- a job without fault
+ready-at : (c : tie.Else1) → ReadyToRun (c .before .read-job .result .job)
+ready-at c = let read = c .before .read-job in record { sound = read .ensures .sound; started = read .ensures .started (c .if1 .left) }
 
 put-job-requires : tie.Need-put-job-requires
-put-job-requires c κs = (c .before .before .before .read-job .ensures .sound .fit, c .before .before .before .read-job .ensures .sound .log)
+put-job-requires c κs = ready-at (c .before .before)
 
 returns-2 : tie.Need-returns-2
 returns-2 c =
-    let a = c .before .before .before .before .before .before .args in
-    let read = c .before .before .before .before .read-job in
-    reports (now (a .job)) (now (a .out)) (job-is (now (a .job)) (read .result) (read .ensures .answered) (c .before .before .before .if1 .left)) (job-length (read .result .job) (read .ensures .sound .fit)) (c .put-job .ensures .1) (c .put-job .ensures .0)
+    let clear = c .before .before .before in
+    let read = clear .before .read-job in
+    let a = clear .before .before .before .args in
+    reports (now (a .job)) (now (a .out)) (job-is (now (a .job)) (read .result) (read .ensures .answered) (clear .if1 .left))
+    (job-length (read .result .job) (ready-at clear)) (c .put-job .ensures .1) (c .put-job .ensures .0)
+    (λ _. subst (λ (r : JobRead). TellsSteps (r .job)) (read .ensures .answered) (tells-steps (read .result .job) (ready-at clear)))
 
 pub report-spec : {M : Type 1} → statement M
 report-spec = tie.close (tie.spec (λ c κs. search needs) (λ c κs. search needs) returns put-job-requires returns-2)

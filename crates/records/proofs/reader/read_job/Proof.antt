@@ -5,7 +5,8 @@ use native.Mathlib.Omega.{arith}
 use borrow.Author.Tests.{lt-ltb, le-ltb}
 use Rattle.records.specs.Reader.{readOf, Sound}
 use Rattle.records.specs.declared.reader.JobRead.{JobRead}
-use Rattle.records.proofs.Growth.{empty-sound}
+use Rattle.records.specs.Job.{emptyJob}
+use Rattle.records.proofs.Growth.{going-empty, going-sound}
 use borrow.Author.Needs.{needs}
 use Rattle.records.proofs.reader.read_job.Statement.{statement}
 use Rattle.records.proofs.reader.read_job.Tie as tie
@@ -17,7 +18,8 @@ returns : tie.Need-returns
 unfolding readOf
 returns c = record {
   answered = simp (lt-ltb _ _ (c .before .before .if1 .taken), c .read-at .ensures, c .before .empty-job .ensures);
-  sound = subst (λ (r : JobRead). Sound (r .job)) (sym (c .read-at .ensures)) (subst Sound (sym (c .before .empty-job .ensures)) empty-sound);
+  sound = subst (λ (r : JobRead). Sound (r .job)) (sym (c .read-at .ensures))
+      (subst Sound (sym (c .before .empty-job .ensures)) (going-sound emptyJob going-empty));
   started = λ z. absurd (late (sym (ap (λ (r : JobRead). r .number) (c .read-at .ensures)) ∙ z));
 }
 

@@ -1,10 +1,21 @@
 -- Assumes nothing.
+use denote.Ref.{now}
+use Prim.Native.Nat.{_%_, _^_}
+use mathlib.Core.Path.{_≡_, _∙_}
+use native.Mathlib.Omega.{arith}
 use borrow.Author.Needs.{needs}
+use Rattle.waits.specs.Left.{leftOf}
 use Rattle.replay.proofs.replays.told.Statement.{statement}
 use Rattle.replay.proofs.replays.told.Tie as tie
 
 returns : tie.Need-returns
-returns c = simp (c .before .before .before .before .ending-of .ensures, c .before .before .before .flags-word-0 .ensures, c .before .before .flags-word-1 .ensures, c .clocks-left .ensures)
+returns c =
+    let ending = c .before .before .before in
+    let place = ending .before .before .before in
+    let start = place .before .before .before .before in
+    let left = leftOf (now (start .args .clocks)) (start .args .last .place) in
+    let fits : left % 2 ^ 64 ≡ left = omega (arith, start .pre) in
+    simp (ending .ending-of .ensures, c .before .before .flags-word-0 .ensures, c .before .flags-word-1 .ensures, c .clocks-left .ensures ∙ fits)
 
 pub told-spec : {M : Type 1} → statement M
 told-spec =

@@ -5,6 +5,7 @@ use borrow.Author.Needs.{needs}
 use Rattle.time.proofs.Others.{takes-no-time}
 use Rattle.time.proofs.elapsed.elapse.Statement.{statement}
 use Rattle.time.proofs.elapsed.elapse.Tie as tie
+use Rattle.log.specs.Log.{logOf}
 
 returns : tie.Need-returns
 returns c = simp (c .before .before .action .given .1, c .after-wait .ensures)
@@ -15,7 +16,7 @@ returns-2 c = simp (c .before .before .before .action2 .given .1, c .after-ewait
 returns-3 : tie.Need-returns-3
 returns-3 c =
     let a = c .before .before .before .before .before .args in
-    c .at-once .ensures ∙ takes-no-time (a .action) (now (a .clocks)) (now (a .known)) (now (a .values)) (a .at) (c .before .match .keys3)
+    c .at-once .ensures ∙ takes-no-time (a .action) (logOf (now (a .clocks)) (now (a .known)) (now (a .values))) (a .at) (c .before .match .keys3)
 
 pub elapse-spec : {M : Type 1} → statement M
 elapse-spec =

@@ -1,7 +1,7 @@
 -- Assumes nothing.
 use borrow.Author.Needs.{needs}
-use Rattle.replay.proofs.replays.entries.Statement.{statement}
-use Rattle.replay.proofs.replays.entries.Tie as tie
+use Rattle.replay.proofs.replays.written.Statement.{statement}
+use Rattle.replay.proofs.replays.written.Tie as tie
 
 returns : tie.Need-returns
 returns c = simp (c .enum-told .given .1)
@@ -21,8 +21,8 @@ returns-5 c = simp (c .enum-told5 .given .1)
 returns-6 : tie.Need-returns-6
 returns-6 c = simp (c .enum-told6 .given .1)
 
-pub entries-spec : {M : Type 1} → statement M
-entries-spec =
+pub written-spec : {M : Type 1} → statement M
+written-spec =
     tie.close
     (tie.spec
     (λ c. search needs)

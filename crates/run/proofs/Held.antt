@@ -1,0 +1,73 @@
+-- A script that fits is held by a state: its arrays of 512 bytes, filled up with 0, are fetched as the script is. Assumes nothing.
+use Prim.Native.Nat.{ℕ, _-_, _≤_, _<_}
+use mathlib.Core.Path.{_≡_, refl, ap, _∙_}
+use mathlib.Core.Bool.{false}
+use mathlib.Core.List.{List, _++_}
+use native.Mathlib.Omega.{arith}
+use lib.Dec.{eqb}
+use lib.ListN.{length, getD, replicate, length-append, length-replicate, List·getD-append}
+use Rattle.families.specs.Family.{codeSize}
+use Rattle.fetch.proofs.FetchLaws.{same-fetch}
+use Rattle.fetch.proofs.Places.{size-small}
+use Rattle.flags.specs.declared.flags.Flags.{Flags}
+use Rattle.state.specs.declared.slots.Mode.{Mode}
+use Rattle.state.specs.declared.slots.Slot.{Slot}
+use Rattle.state.specs.declared.slots.SlotName.{SlotName}
+use Rattle.state.specs.declared.state.State.{State}
+use Rattle.state.proofs.SlotLaws.{has-a}
+use Rattle.script.proofs.Scripts.{Fits, fits-script}
+use Rattle.run.specs.SlotRun.{Scene, Holds}
+use Rattle.run.specs.Replay.{IsHeld}
+
+abbrev pub filled : List ℕ → List ℕ
+filled l = l ++ replicate (512 - length l) 0
+
+pub filled-size : (l : List ℕ) → length l ≤ 512 → length (filled l) ≡ 512
+filled-size l h = length-append l (replicate (512 - length l) 0) ∙ omega (arith, length-replicate {A = ℕ} (512 - length l) 0)
+
+filled-at : (l : List ℕ) (i : ℕ) → i < length l → getD (filled l) i 0 ≡ getD l i 0
+filled-at l i h = List·getD-append l (replicate (512 - length l) 0) 0 i h
+
+-- slot A is this slot, all else is fresh
+abbrev pub stateWith : Scene → Slot → Flags → State
+stateWith x slot flags = record {
+  family = x .family;
+  code = filled (x .code);
+  marks = filled (x .marks);
+  flags = flags;
+  enable = x .enable;
+  «override_mode» = false;
+  entries = 0;
+  «entries_high» = 0;
+  a = slot;
+  b = record { mode = Mode.Idle; ip = record { 0 = 0 }; addr = record { 0 = 0 }; «data» = 0 };
+}
+
+module _ (x : Scene) {entry : ℕ} (fit : Fits (x .family) (x .code) (x .marks) entry) where
+  -- the script lies at the front of the arrays
+  pub filled-marks : (i : ℕ) → i < codeSize (x .family) → eqb (getD (filled (x .marks)) i 0) 1 ≡ eqb (getD (x .marks) i 0) 1
+  filled-marks i h = ap (λ (m : ℕ). eqb m 1) (filled-at (x .marks) i (omega (arith, fit .marks-size)))
+
+  pub filled-code : (i : ℕ) → i < codeSize (x .family) → getD (filled (x .code)) i 0 ≡ getD (x .code) i 0
+  filled-code i h = filled-at (x .code) i (omega (arith, fit .code-size))
+
+  pub state-holds : (slot : Slot) (flags : Flags) → Holds x slot flags SlotName.A (stateWith x slot flags)
+  state-holds slot flags =
+      let small = size-small (x .family) in
+      record {
+        known-family = fit .known;
+        slot-there = has-a (x .family) (fit .known);
+        same-scene = record {
+          family = refl;
+          enable = refl;
+          log = refl;
+          fetches =
+              same-fetch (x .family) (x .code) (x .marks) (filled (x .code)) (filled (x .marks)) (omega (arith, fit .code-size))
+              (omega (arith, fit .code-size, filled-size (x .code) (omega (arith, fit .code-size)))) filled-marks (λ i h _. filled-code i h);
+        };
+        same-slot = refl;
+        same-flags = refl;
+      }
+
+pub is-held : (x : Scene) (slot : Slot) (flags : Flags) → IsHeld x slot flags
+is-held x slot flags fits = (stateWith x slot flags, state-holds x (fits-script (x .family) (x .code) (x .marks) (slot .ip .0) fits) slot flags)

@@ -1,0 +1,119 @@
+-- One slot's run: what its turns read, what they change, and what they did (01, "Demand 3's words").
+use Prim.Native.Nat.{ℕ, zero, suc, _+_}
+use mathlib.Core.Path.{_≡_}
+use mathlib.Core.Bool.{Bool, true, cond}
+use mathlib.Core.List.{List, [], _++_}
+use Rattle.families.specs.Family.{knownFamily}
+use Rattle.isa.specs.declared.reader.Decoded.{Decoded}
+use Rattle.log.specs.Log.{Log}
+use Rattle.log.specs.declared.place.Place.{Place}
+use Rattle.fetch.specs.Fetch.{fetchOf}
+use Rattle.flags.specs.declared.flags.Flags.{Flags}
+use Rattle.state.specs.Slot.{hasSlot, isRunning, slotOf, withSlot}
+use Rattle.state.specs.declared.slots.Slot.{Slot}
+use Rattle.state.specs.declared.slots.SlotName.{SlotName}
+use Rattle.state.specs.declared.state.State.{State}
+use Rattle.turn.specs.Turn.{sameTurn, turnOf}
+use Rattle.turn.specs.declared.turn.Effect.{Effect}
+use Rattle.turn.specs.declared.turn.Turn.{Turn}
+use Rattle.run.specs.Run.{Run, Write, wroteBy, fetchedBy}
+
+-- what a slot's turns read and none changes: the family, its code RAM with the upload marks, HWSQ_ENABLE and the log
+pub record Scene : Type 0 where
+  pub family : ℕ
+  pub code : List ℕ
+  pub marks : List ℕ
+  pub enable : Bool
+  pub log : Log
+
+abbrev pub sceneFor : ℕ → List ℕ → List ℕ → Bool → Log → Scene
+sceneFor family code marks enable log = record { family = family; code = code; marks = marks; enable = enable; log = log }
+
+-- what is fetched at a place of its code RAM
+abbrev pub fetchIn : Scene → ℕ → Decoded
+fetchIn x at = fetchOf (x .family) (x .code) (x .marks) at
+
+-- the slot, the flags and the place that the last turn left, the writes in order, how many turns fetched an instruction, and
+-- the clocks spent in waits and passed by in ewaits
+pub record SlotRun : Type 0 where
+  pub slot : Slot
+  pub flags : Flags
+  pub place : Place
+  pub writes : List Write
+  pub count : ℕ
+  pub waits : ℕ
+  pub ewaits : ℕ
+
+-- before the first turn: row 0, 0 used
+abbrev pub slotBegun : Slot → Flags → SlotRun
+slotBegun slot flags = record { slot = slot; flags = flags; place = record { row = 0; used = 0 }; writes = []; count = 0; waits = 0; ewaits = 0 }
+
+-- with one more turn noted
+abbrev pub tookTurn : SlotRun → Turn → SlotRun
+tookTurn r t = record {
+  slot = t .slot;
+  flags = t .flags;
+  place = t .place;
+  writes = r .writes ++ wroteBy (t .effect);
+  count = r .count + fetchedBy (t .effect);
+  waits = r .waits + t .waited;
+  ewaits = r .ewaits + t .searched;
+}
+
+module _ (x : Scene) where
+  -- the turn of a slot that runs: one instruction is fetched at IP and done
+  abbrev pub turnFrom : SlotRun → Turn
+  turnFrom r = turnOf (x .family) (x .enable) (r .slot) (r .flags) (x .log) (r .place) (fetchIn x (r .slot .ip .0))
+
+  -- its next turn; a slot that is idle, waiting, blocked or hung is left alone
+  abbrev pub nextTurn : SlotRun → Turn
+  nextTurn r = cond (isRunning (r .slot .mode)) (turnFrom r) (sameTurn (r .slot) (r .flags) (r .place) Effect.Nothing)
+
+  -- its run after n more turns
+  unfoldable pub slotRunFor : ℕ → SlotRun → SlotRun
+  slotRunFor zero r = r
+  slotRunFor (suc n) r = slotRunFor n (tookTurn r (nextTurn r))
+
+-- scenes of one family, with one HWSQ_ENABLE and one log, that fetch the same at every place
+pub record SameScene (x y : Scene) : Type 0 where
+  pub family : x .family ≡ y .family
+  pub enable : x .enable ≡ y .enable
+  pub log : x .log ≡ y .log
+  pub fetches : (at : ℕ) → fetchIn x at ≡ fetchIn y at
+
+-- ---- in a state
+
+-- what any slot's turns read of a state
+abbrev pub sceneOf : State → Log → Scene
+sceneOf s log = sceneFor (s .family) (s .code) (s .marks) (s .enable) log
+
+-- the run of a slot, put into the state in which it began: all else of the state stays
+abbrev pub inState : State → SlotName → SlotRun → Run
+inState s name r = record {
+  state = withSlot s name (r .slot) (r .flags);
+  place = r .place;
+  writes = r .writes;
+  count = r .count;
+  waits = r .waits;
+  ewaits = r .ewaits;
+}
+
+-- what a state's run shows of a slot
+abbrev pub slotRunOf : SlotName → Run → SlotRun
+slotRunOf name r = record {
+  slot = slotOf (r .state) name;
+  flags = r .state .flags;
+  place = r .place;
+  writes = r .writes;
+  count = r .count;
+  waits = r .waits;
+  ewaits = r .ewaits;
+}
+
+-- a state whose turns read this scene, with the slot under a name that its family has, and the flags
+pub record Holds (x : Scene) (slot : Slot) (flags : Flags) (name : SlotName) (s : State) : Type 0 where
+  pub known-family : knownFamily (s .family) ≡ true
+  pub slot-there : hasSlot (s .family) name ≡ true
+  pub same-scene : SameScene (sceneOf s (x .log)) x
+  pub same-slot : slotOf s name ≡ slot
+  pub same-flags : s .flags ≡ flags
