@@ -1,19 +1,23 @@
--- A passed script neither hangs nor stops, whatever HWSQ_ENABLE and the flags are: it comes to its exit, to the log's end or to a poke that blocks. Assumes nothing.
+-- A passed script neither hangs nor stops, whatever HWSQ_ENABLE and the flags are: it exits, is held up at the log's end, or a poke blocks. Assumes nothing.
 use Prim.Native.Nat.{ℕ, zero, suc, _+_, _≤_}
-use mathlib.Core.Path.{_≡_, refl}
+use mathlib.Core.Path.{_≡_, refl, sym, ap, subst, _∙_}
 use mathlib.Core.Logic.{_⊎_, inl, inr, ⊎-elim}
 use mathlib.Core.Bool.{Bool, true, false}
 use native.Mathlib.Omega.{arith}
 use Rattle.families.specs.Family.{codeSize}
 use Rattle.actions.specs.declared.actions.Action.{Action}
 use Rattle.log.specs.Log.{Log}
+use Rattle.log.specs.Validity.{validLog}
 use Rattle.flags.specs.declared.flags.Flags.{Flags}
-use Rattle.state.specs.Slot.{isRunning}
+use Rattle.state.specs.Slot.{isRunning, slotOf}
 use Rattle.state.specs.declared.slots.Mode.{Mode}
+use Rattle.state.specs.declared.slots.SlotName.{SlotName}
+use Rattle.state.specs.declared.state.State.{State}
 use Rattle.time.specs.Time.{elapsedOf}
 use Rattle.turn.specs.Turn.{modeAfter}
-use Rattle.run.specs.Replay.{endingOf, fullSlotRun, slotAtEntry}
-use Rattle.run.specs.SlotRun.{Scene, SlotRun, slotRunFor}
+use Rattle.run.specs.SlotRun.{Scene, SlotRun, slotRunFor, slotRunOf, Holds}
+use Rattle.run.specs.Replay.{fullSteps, fullSlotRun, fullRun, endingOf, slotAtEntry}
+use Rattle.run.proofs.InState.{run-back, full-follows}
 use Rattle.script.proofs.Scripts.{Script, Reads}
 use Rattle.verdict.specs.Auditor.{knowNothing}
 use Rattle.verdict.specs.Demand3.{EndsWell}
@@ -59,7 +63,14 @@ module _ (x : Script) (entry : ℕ) where
           (λ rests. rested n (next scene r) (rw (mode-then x enable log g f) rests))
           (fine-mode action enable (elapsedOf action log (r .place) .finished) (j .goes))
 
-  -- of a slot that runs from the entry
-  pub ends-well : {q m : ℕ} {l : Knowledge} → Reads x q Action.Exit m → Walk x entry knowNothing q l → (addr word : ℕ) (flags : Flags) (enable : Bool) (log : Log)
-      → EndsWell (endingOf (fullSlotRun (sceneWith x enable log) (slotAtEntry entry addr word) flags .slot .mode))
-  ends-well e w addr word flags enable log = ends-on enable log e w (record { runs = refl; ip = refl }) (suc (codeSize (x .family))) (omega arith) .1
+  -- of every state that holds a slot that runs from the entry
+  pub ends-well : {q m : ℕ} {l : Knowledge} → Reads x q Action.Exit m → Walk x entry knowNothing q l
+      → (enable : Bool) (log : Log) (addr word : ℕ) (flags : Flags) (name : SlotName) (s : State)
+      → Holds (sceneWith x enable log) (slotAtEntry entry addr word) flags name s → validLog log ≡ true
+      → EndsWell (endingOf (slotOf (fullRun name log s .state) name .mode))
+  ends-well e w enable log addr word flags name s held valid =
+      let y = sceneWith x enable log in
+      let slot = slotAtEntry entry addr word in
+      let shows = ap (slotRunOf name) (full-follows y slot flags name s held valid) ∙ run-back s name (fullSlotRun y slot flags) in
+      subst (λ (r : SlotRun). EndsWell (endingOf (r .slot .mode))) (sym shows)
+      (ends-on enable log e w (record { runs = refl; ip = refl }) (fullSteps (x .family)) (omega arith) .1)

@@ -15,7 +15,8 @@ use Rattle.verdict.specs.Auditor.{canRelease, verdictIn, auditOf}
 use Rattle.verdict.specs.Starred.{Starred}
 
 pub starred : Starred
-unfolding auditOf scriptFits rangesFit byFamily verdictIn fetchOf allMarked decodeOf opcodeAt waitClocks canRelease runAnswerOf validLog slotRunFor performOf searchIn hasReading
+unfolding auditOf scriptFits rangesFit byFamily verdictIn fetchOf allMarked decodeOf opcodeAt waitClocks canRelease runAnswerOf validLog slotRunFor
+    performOf searchIn hasReading
 starred = (
   refl,
   refl,

@@ -18,7 +18,7 @@ use Rattle.state.specs.declared.state.State.{State}
 use Rattle.turn.specs.declared.turn.Effect.{Effect}
 use Rattle.script.specs.Input.{listedIn, scriptFits, inputFits}
 use Rattle.run.specs.Run.{Run, Write, begun, nextStep, runFor}
-use Rattle.run.specs.SlotRun.{sceneFor, slotRunOf}
+use Rattle.run.specs.SlotRun.{sceneFor, slotRunOf, Holds}
 use Rattle.run.specs.Replay.{maxEntries, fullSlotRun, fullRun, progressOf, endingOf, toldOf, slotAtEntry, replayOf}
 use Rattle.verdict.specs.Start.{Start, MasksInType}
 use Rattle.refusals.specs.declared.refusals.Fault.{Fault}
@@ -128,8 +128,9 @@ module _ (family : ℕ) (code marks : List ℕ) (entry : ℕ) (ranges : List ℕ
     -- "replay answers what the steps give"
     pub replays : ReplayTellsAll
     -- a job may start it with HWSQ_ENABLE 0 or memory paused, which no start is: it ends at exit, with the log or at a poke all the same
-    pub ends : (addr word : ℕ) (flags : Flags) (enable : Bool) (log : Log)
-        → EndsWell (endingOf (fullSlotRun (sceneFor family code marks enable log) (slotAtEntry entry addr word) flags .slot .mode))
+    pub ends : (enable : Bool) (log : Log) (addr word : ℕ) (flags : Flags) (name : SlotName) (s : State)
+        → Holds (sceneFor family code marks enable log) (slotAtEntry entry addr word) flags name s → validLog log ≡ true
+        → EndsWell (endingOf (slotOf (fullRun name log s .state) name .mode))
 
   -- ---- what a fault means: a run that shows it
 
