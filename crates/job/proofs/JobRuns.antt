@@ -14,6 +14,7 @@ use Rattle.state.specs.declared.slots.Mode.{Mode}
 use Rattle.state.specs.declared.slots.Slot.{Slot}
 use Rattle.state.proofs.SlotLaws.{slot-back}
 use Rattle.execution.specs.Execution.{executingSlot}
+use Rattle.execution.proofs.Executing.{executing-executes}
 use Rattle.script.proofs.Scripts.{Fits, fits-script}
 use Rattle.run.specs.Run.{Run}
 use Rattle.run.specs.SlotRun.{SameScene, sceneOf, inState, Holds}
@@ -23,7 +24,6 @@ use Rattle.run.proofs.InState.{full-follows}
 use Rattle.records.specs.Job.{knownOf, logIn}
 use Rattle.records.specs.Started.{executing, codeOf, marksOf, entryOf}
 use Rattle.records.specs.declared.contents.Job.{Job}
-use Rattle.records.proofs.Starting.{executing-executes}
 use Rattle.job.specs.Lines.{writeLines, rowLines, endLine, statusLine}
 use Rattle.job.specs.Script.{jobScene, jobRun, stepRun, statusOf}
 use Rattle.job.specs.Report.{runLines, TellsSteps}
@@ -44,7 +44,8 @@ module _ (j : Job) (ready : ReadyToRun j) where
         enable = refl;
         log = refl;
         fetches =
-            same-fetch (s .family) (codeOf s) (marksOf s) (s .code) (s .marks) (omega (arith, fit .code-size)) (omega (arith, fit .code-size, length-take n (s .code)))
+            same-fetch (s .family) (codeOf s) (marksOf s) (s .code) (s .marks)
+            (omega (arith, fit .code-size)) (omega (arith, fit .code-size, length-take n (s .code)))
             (λ i h. ap (λ (m : ℕ). eqb m 1) (sym (getD-take n (s .marks) i 0 h))) (λ i h _. sym (getD-take n (s .code) i 0 h));
       }
 

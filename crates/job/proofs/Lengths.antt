@@ -102,19 +102,21 @@ run-length : (j : Job) → length (jobRun j .writes) ≤ 170 → length (knownOf
 unfolding runLines
 run-length j writes rows =
     let r = jobRun j in
+    let status = statusOf (withSlot (j .state) (executingSlot (j .state)) (r .slot) (r .flags)) in
     simp length-append
-    (omega (arith, writes-length (r .writes), rows-length 0 (knownOf j), end-length (endingOf (r .slot .mode)) (r .place), status-length (statusOf (withSlot (j .state) (executingSlot (j .state)) (r .slot) (r .flags)))))
+    (omega (arith, writes-length (r .writes), rows-length 0 (knownOf j), end-length (endingOf (r .slot .mode)) (r .place), status-length status))
 
 -- ---- every report has room in the lent bytes
 
 verdict-length : (j : Job) → ReadyToRun j → length (knownOf j) ≤ 1024 → (v : Verdict) → length (verdictLines j v) ≤ 48327
 verdict-length j ready rows (Verdict.Pass place count writes clocks) =
-    omega (arith, length-append (passLine (place .0) count writes clocks) (runLines j), pass-length (place .0) count writes clocks, run-length j (writes-few j ready) rows)
+    let pass = passLine (place .0) count writes clocks in
+    omega (arith, length-append pass (runLines j), pass-length (place .0) count writes clocks, run-length j (writes-few j ready) rows)
 verdict-length j ready rows (Verdict.Fault fault place) = omega (arith, fault-length (faultNumber fault) (place .0))
 
 pub job-length : (j : Job) → ReadyToRun j → length (jobLines j) ≤ 65536
 unfolding jobLines
 job-length j ready =
     let rows : length (knownOf j) ≤ 1024 = omega (arith, length-take (j .counts .rows) (j .known), ready .sound .fit .rows) in
-    omega
-    (arith, length-append (familyLine (j .state .family)) (verdictLines j (verdictOf j)), family-length (j .state .family), verdict-length j ready rows (verdictOf j))
+    let family = j .state .family in
+    omega (arith, length-append (familyLine family) (verdictLines j (verdictOf j)), family-length family, verdict-length j ready rows (verdictOf j))

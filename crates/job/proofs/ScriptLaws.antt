@@ -31,6 +31,10 @@ ram-lies family bytes n h e = omega (arith, size-small family)
 pub part-length : (n : ℕ) (l : List ℕ) → n ≤ length l → n ≡ length (take n l)
 part-length n l h = sym (length-take-le n l h)
 
+-- and a part of them is it
+pub ram-part : (family : ℕ) (bytes : List ℕ) (n : ℕ) → length bytes ≡ 512 → n ≡ codeSize family → n ≡ length (take n bytes)
+ram-part family bytes n h e = part-length n bytes (ram-lies family bytes n h e)
+
 -- ---- the run of a job that was read without fault
 
 ended-same : {a b : Progress} → RunAnswer.Ended a ≡ RunAnswer.Ended b → a ≡ b
@@ -49,7 +53,9 @@ module _ (j : Job) (ready : ReadyToRun j) where
 
   pub writes-few : length (jobRun j .writes) ≤ 170
   unfolding jobRun
-  writes-few = slot-room (jobScene j) (executing (j .state)) (j .state .flags) (omega (arith, fits-script _ _ _ _ script-fits .entry-low)) (fullSteps (j .state .family))
+  writes-few =
+      let low = fits-script _ _ _ _ script-fits .entry-low in
+      slot-room (jobScene j) (executing (j .state)) (j .state .flags) (omega arith) (fullSteps (j .state .family))
 
   module _ (old new : List ℕ) (answer : RunAnswer) (runs : RunsJob j old new answer) (lent : length old ≡ 340) where
     -- its run is not refused

@@ -41,9 +41,10 @@ reportOf bytes = let read = readOf bytes in cond (eqb (read .number) 0) (jobLine
 
 -- what is told of a run is the machine's own: the writes of its steps, how the slot ended and where, and STATUS in the state that the last step returned
 abbrev pub TellsSteps : Job → Type 0
-TellsSteps j = let r = stepRun j in
-    runLines j
-    ≡ writeLines (r .writes) ++ rowLines 0 (knownOf j) ++ (endLine (endingOf (slotOf (r .state) (executingSlot (j .state)) .mode)) (r .place) ++ statusLine (statusOf (r .state)))
+TellsSteps j =
+    let r = stepRun j in
+    let ending = endingOf (slotOf (r .state) (executingSlot (j .state)) .mode) in
+    runLines j ≡ writeLines (r .writes) ++ rowLines 0 (knownOf j) ++ (endLine ending (r .place) ++ statusLine (statusOf (r .state)))
 
 -- what is promised of the answer, and of the lent bytes, old and new: the report and then as lent
 pub record Reports (bytes old new : List ℕ) (answer : ℕ) : Type 0 where

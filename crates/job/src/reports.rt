@@ -98,7 +98,7 @@ fn put_last(out: &mut [u8; 65536], at: usize, state: State, last: Progress) -> u
     let flags = last.flags;
     let place = last.place;
     let mode = slot.mode;
-    let a = put_end(out, at, replay::ending_of(mode), place);
+    let a = put_end(out, at, mode, place);
     let after = state::with_slot(state, executing_slot(state), slot, flags);
     put_status(out, a, status_of(after))
 }

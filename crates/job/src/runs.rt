@@ -2,7 +2,7 @@
 ghost use mathlib.Core.Path.{_≡_};
 ghost use Prim.Native.Nat.{_*_, _≤_};
 ghost use lib.ListN.{take};
-ghost use Rattle.families.specs.Family.{codeSize};
+ghost use Rattle.fetch.specs.Fetch.{codeRam};
 ghost use Rattle.verdict.specs.Auditor.{auditOf};
 ghost use Rattle.run.specs.Replay.{RunsSlot};
 ghost use Rattle.run.specs.SlotRun.{sceneFor};
@@ -36,7 +36,7 @@ fn audit_code(
     ranges: usize,
 ) -> Verdict
     requires { ⌜ ranges ≤ maxRanges ⌝ }
-    ensures { λ r. ⌜ r ≡ auditOf family (take (codeSize family) code) (take (codeSize family) marks) (entry .0) (take (2 * ranges) bounds) ⌝ }
+    ensures { λ r. ⌜ r ≡ auditOf family (codeRam family code) (codeRam family marks) (entry .0) (take (2 * ranges) bounds) ⌝ }
 {
     let size = families::code_size(family);
     let count = 2 * ranges;
@@ -84,7 +84,9 @@ fn run_code(
     writes: &mut [u32],
 ) -> RunAnswer
     requires { ⌜ rows ≤ maxRows ⌝ }
-    ensures { λ r. ⌜ RunsSlot (sceneFor family (take (codeSize family) code) (take (codeSize family) marks) enable (logOf (take rows clocks) (take rows known) (take rows values))) slot flags (now (writes .entry)) (now (writes .exit)) r ⌝ }
+    ensures { λ r. ⌜ RunsSlot
+        (sceneFor family (codeRam family code) (codeRam family marks) enable (logOf (take rows clocks) (take rows known) (take rows values)))
+        slot flags (now (writes .entry)) (now (writes .exit)) r ⌝ }
 {
     let size = families::code_size(family);
     replay::run(

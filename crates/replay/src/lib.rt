@@ -2,6 +2,5 @@
 mod replays;
 
 pub use replays::MAX_ENTRIES;
-pub use replays::ending_of;
 pub use replays::replay;
 pub use replays::run;

@@ -278,7 +278,7 @@ fn run_turns<'a>(
 }
 
 // How a run ended whose slot is in this mode.
-pub fn ending_of(mode: Mode) -> Ending
+fn ending_of(mode: Mode) -> Ending
     ensures { λ r. ⌜ r ≡ endingOf mode ⌝ }
 {
     match mode {

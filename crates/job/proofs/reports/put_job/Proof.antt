@@ -104,7 +104,8 @@ returns-3 c =
     let line = ap (λ (n : ℕ). faultLine n (v .0 .1 .0 .0)) (c .before .fault-number .ensures) in
     let e : verdictOf (a .job) ≡ Verdict.Fault (v .0 .0) (v .0 .1 .0) = sym (asked .verdict-of .ensures) ∙ v .1 in (
       stored-as _ _ (ap (λ (x : Verdict). first ++ verdictLines (a .job) x) (sym e))
-          (then (now (a .out)) 0 first (faultLine (faultNumber (v .0 .0)) (v .0 .1 .0 .0)) (family .put-family2 .ensures .0) (stored-as _ _ line (c .put-fault .ensures))),
+          (then (now (a .out)) 0 first (faultLine (faultNumber (v .0 .0)) (v .0 .1 .0 .0))
+          (family .put-family2 .ensures .0) (stored-as _ _ line (c .put-fault .ensures))),
       family .put-family2 .ensures .1,
     )
 

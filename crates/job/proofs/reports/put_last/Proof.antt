@@ -5,7 +5,7 @@ use Rattle.run.specs.Replay.{endingOf}
 use Rattle.execution.specs.Execution.{executingSlot}
 use Rattle.state.specs.Slot.{withSlot}
 use Rattle.state.specs.declared.slots.SlotName.{SlotName}
-use Rattle.run.specs.declared.answers.Ending.{Ending}
+use Rattle.state.specs.declared.state.State.{State}
 use Rattle.job.specs.Lines.{endLine, statusLine}
 use Rattle.job.specs.Script.{statusOf}
 use Rattle.text.proofs.PutLaws.{then, stored-as}
@@ -17,11 +17,14 @@ returns : tie.Need-returns
 returns c =
     let w = c .before .before .before in
     let e = w .before .before in
-    let a = e .before .before .before .before .before .before .args in
-    let after = w .with-slot .ensures ∙ ap (λ (name : SlotName). withSlot (a .state) name (a .last .slot) (a .last .flags)) (w .before .executing-slot .ensures) in
-    then (now (a .out)) (a .at) (endLine (endingOf (a .last .slot .mode)) (a .last .place)) (statusLine (statusOf (withSlot (a .state) (executingSlot (a .state)) (a .last .slot) (a .last .flags))))
-    (stored-as _ _ (ap (λ (ending : Ending). endLine ending (a .last .place)) (e .before .ending-of .ensures)) (e .put-end .ensures))
-    (stored-as _ _ (ap statusLine (c .before .status-of .ensures ∙ ap statusOf after)) (c .put-status .ensures))
+    let place = e .before .before in
+    let a = place .before .before .before .args in
+    let last = a .last in
+    let left : SlotName → State = λ name. withSlot (a .state) name (last .slot) (last .flags) in
+    let after = w .with-slot .ensures ∙ ap left (w .before .executing-slot .ensures) in
+    then (now (a .out)) (a .at) (endLine (endingOf (last .slot .mode)) (last .place)) (statusLine (statusOf (left (executingSlot (a .state)))))
+    (e .put-end .ensures) (stored-as _ _ (ap statusLine (c .before .status-of .ensures ∙ ap statusOf after)) (c .put-status .ensures))
 
 pub put-last-spec : {M : Type 1} → statement M
-put-last-spec = tie.close (tie.spec (λ c κs. search needs) (λ c κs. search needs) (λ c κs. search needs) (λ c κs. search needs) (λ c κs. search needs) (λ c κs. search needs) returns)
+put-last-spec =
+    tie.close (tie.spec (λ c κs. search needs) (λ c κs. search needs) (λ c κs. search needs) (λ c κs. search needs) (λ c κs. search needs) returns)
