@@ -1,5 +1,5 @@
 // The report on a job.
-ghost use Rattle.job.specs.Report.{Reports};
+ghost use Rattle.report.specs.Report.{Reports};
 
 // Writes the report at the start of out, whose other bytes stay as lent, and answers how many bytes it takes.
 #[no_mangle]

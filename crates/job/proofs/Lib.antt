@@ -1,4 +1,2 @@
 pub mod LineLaws
 pub mod ScriptLaws
-pub mod Lengths
-pub mod JobRuns

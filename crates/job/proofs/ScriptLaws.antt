@@ -1,27 +1,22 @@
 -- Parts of a job's arrays, and the run of its script. Assumes nothing.
 use Prim.Native.Nat.{ℕ, _*_, _≤_}
 use mathlib.Core.Path.{_≡_, refl, ap, sym, _∙_}
-use mathlib.Core.Bool.{true}
 use mathlib.Core.List.{List, [], _∷_}
 use native.Mathlib.Omega.{arith}
 use lib.ListN.{length, take, drop, length-take}
 use lib.Seq.{length-take-le, take-at}
 use borrow.Author.Tests.{le-leb}
 use Rattle.families.specs.Family.{codeSize}
-use Rattle.isa.proofs.Tests.{both-left}
 use Rattle.fetch.proofs.Places.{size-small}
-use Rattle.script.specs.Input.{scriptFits, rangesFit}
-use Rattle.script.proofs.Scripts.{fits-script}
 use Rattle.refusals.specs.declared.refusals.Unreplayable.{Unreplayable}
 use Rattle.run.specs.Run.{Write}
-use Rattle.run.specs.Replay.{fullSteps, entriesOf, writtenInto, progressOf, runAnswerOf, lentAfter}
+use Rattle.run.specs.Replay.{entriesOf, writtenInto, progressOf, runAnswerOf, lentAfter}
 use Rattle.run.specs.declared.answers.Progress.{Progress}
 use Rattle.run.specs.declared.answers.RunAnswer.{RunAnswer}
-use Rattle.run.proofs.Room.{slot-room}
-use Rattle.records.specs.Job.{rangesOf}
-use Rattle.records.specs.Started.{executing, codeOf, marksOf, entryOf}
+use Rattle.records.specs.Started.{executing}
 use Rattle.records.specs.declared.contents.Job.{Job}
-use Rattle.job.specs.Script.{jobScene, jobRun}
+use Rattle.report.proofs.ScriptLaws.{script-fits, writes-few}
+use Rattle.report.specs.Script.{jobScene, jobRun}
 use Rattle.job.specs.Inside.{RunsJob, ReadyToRun, RanJob}
 
 -- a family's code RAM lies in the 512 bytes of a state
@@ -48,20 +43,11 @@ pub never-refused : {A : Type 0} {why : Unreplayable} {last : Progress} → RunA
 never-refused h = absurd (let z : _≡_ {A = ℕ} 0 1 = cc in let w : ⊥ = omega arith in w)
 
 module _ (j : Job) (ready : ReadyToRun j) where
-  pub script-fits : scriptFits (j .state .family) (codeOf (j .state)) (marksOf (j .state)) (entryOf (j .state)) ≡ true
-  script-fits = both-left _ (rangesFit (rangesOf j)) (ready .started .fits)
-
-  pub writes-few : length (jobRun j .writes) ≤ 170
-  unfolding jobRun
-  writes-few =
-      let low = fits-script _ _ _ _ script-fits .entry-low in
-      slot-room (jobScene j) (executing (j .state)) (j .state .flags) (omega arith) (fullSteps (j .state .family))
-
   module _ (old new : List ℕ) (answer : RunAnswer) (runs : RunsJob j old new answer) (lent : length old ≡ 340) where
     -- its run is not refused
     pub run-ends : answer ≡ RunAnswer.Ended (progressOf (jobRun j))
     unfolding runAnswerOf jobRun
-    run-ends = runs .answered ∙ simp (script-fits, le-leb 340 (length old) (omega arith), ready .sound .log)
+    run-ends = runs .answered ∙ simp (script-fits j (ready .started), le-leb 340 (length old) (omega arith), ready .sound .log)
 
     written : new ≡ writtenInto old (jobRun j .writes)
     unfolding jobRun
@@ -84,7 +70,7 @@ module _ (j : Job) (ready : ReadyToRun j) where
       entries-lie = omega (arith, writes-counted, length-take (2 * length (jobRun j .writes)) new, ap length entries-are, entries-length (jobRun j .writes))
 
       pub entries-few : last .writes ≤ 170
-      entries-few = omega (arith, writes-counted, writes-few)
+      entries-few = omega (arith, writes-counted, writes-few j (ready .started))
 
       -- the entries used hold the writes
       pub ran : RanJob j last (take (2 * last .writes) new)

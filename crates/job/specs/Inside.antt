@@ -8,8 +8,8 @@ use Rattle.run.specs.declared.answers.RunAnswer.{RunAnswer}
 use Rattle.records.specs.Reader.{Sound}
 use Rattle.records.specs.Started.{Started, executing}
 use Rattle.records.specs.declared.contents.Job.{Job}
-use Rattle.job.specs.Lines.{writeLine}
-use Rattle.job.specs.Script.{jobScene, jobRun}
+use Rattle.report.specs.Lines.{writeLine}
+use Rattle.report.specs.Script.{jobScene, jobRun}
 
 -- a line for each write in the lent entries: address and data of each
 abbrev pub pairLines : List ℕ → List ℕ

@@ -1,5 +1,1 @@
-pub mod Words
-pub mod Lines
-pub mod Script
-pub mod Report
 pub mod Inside

@@ -10,7 +10,7 @@ ghost use Rattle.log.specs.Log.{logOf};
 ghost use Rattle.log.specs.Validity.{maxRows};
 ghost use Rattle.script.specs.Input.{maxRanges};
 ghost use Rattle.records.specs.Job.{CountsFit};
-ghost use Rattle.job.specs.Script.{verdictOf, wordOf, statusOf};
+ghost use Rattle.report.specs.Script.{verdictOf, wordOf, statusOf};
 ghost use Rattle.job.specs.Inside.{RunsJob};
 use execution::executing_slot;
 use flags::Flags;

@@ -9,9 +9,9 @@ use Rattle.refusals.specs.Number.{faultNumber}
 use Rattle.verdict.specs.declared.verdicts.Verdict.{Verdict}
 use Rattle.run.specs.declared.answers.Progress.{Progress}
 use Rattle.records.specs.declared.contents.Job.{Job}
-use Rattle.job.specs.Lines.{familyLine, faultLine, passLine}
-use Rattle.job.specs.Script.{verdictOf}
-use Rattle.job.specs.Report.{runLines, verdictLines, jobLines}
+use Rattle.report.specs.Lines.{familyLine, faultLine, passLine}
+use Rattle.report.specs.Script.{verdictOf}
+use Rattle.report.specs.Report.{runLines, verdictLines, jobLines}
 use Rattle.text.proofs.PutLaws.{then, stored-as}
 use Rattle.job.proofs.ScriptLaws.{part-length, never-refused, run-ends, entries-lie, entries-few, ran}
 use borrow.Author.Needs.{needs}

@@ -6,8 +6,8 @@ use Rattle.execution.specs.Execution.{executingSlot}
 use Rattle.state.specs.Slot.{withSlot}
 use Rattle.state.specs.declared.slots.SlotName.{SlotName}
 use Rattle.state.specs.declared.state.State.{State}
-use Rattle.job.specs.Lines.{endLine, statusLine}
-use Rattle.job.specs.Script.{statusOf}
+use Rattle.report.specs.Lines.{endLine, statusLine}
+use Rattle.report.specs.Script.{statusOf}
 use Rattle.text.proofs.PutLaws.{then, stored-as}
 use borrow.Author.Needs.{needs}
 use Rattle.job.proofs.reports.put_last.Statement.{statement}

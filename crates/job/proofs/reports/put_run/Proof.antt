@@ -4,10 +4,10 @@ use mathlib.Core.Path.{_≡_, ap, _∙_}
 use mathlib.Core.List.{_++_}
 use Rattle.run.specs.Replay.{progressOf}
 use Rattle.records.specs.Job.{knownOf}
-use Rattle.job.specs.Lines.{writeLines, rowLines}
+use Rattle.report.specs.Lines.{writeLines, rowLines}
 use Rattle.job.specs.Inside.{pairLines}
-use Rattle.job.specs.Script.{jobRun}
-use Rattle.job.specs.Report.{lastLines, runLines}
+use Rattle.report.specs.Script.{jobRun}
+use Rattle.report.specs.Report.{lastLines, runLines}
 use Rattle.text.proofs.PutLaws.{then, stored-as}
 use Rattle.job.proofs.LineLaws.{pairs-writes}
 use borrow.Author.Needs.{needs}

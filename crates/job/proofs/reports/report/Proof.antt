@@ -9,12 +9,12 @@ use borrow.Author.Tests.{eq-eqb, ne-eqb}
 use Rattle.text.specs.Put.{Stored}
 use Rattle.records.specs.Reader.{readOf}
 use Rattle.records.specs.declared.reader.JobRead.{JobRead}
-use Rattle.job.specs.Lines.{refusedLine}
-use Rattle.job.specs.Report.{jobLines, reportOf, TellsSteps, Reports}
+use Rattle.report.specs.Lines.{refusedLine}
+use Rattle.report.specs.Report.{jobLines, reportOf, TellsSteps, Reports}
 use Rattle.job.specs.Inside.{ReadyToRun}
 use Rattle.text.proofs.PutLaws.{whole, counts, stored-as}
-use Rattle.job.proofs.Lengths.{refused-length, job-length}
-use Rattle.job.proofs.JobRuns.{tells-steps}
+use Rattle.report.proofs.Lengths.{refused-length, job-length}
+use Rattle.report.proofs.JobRuns.{tells-steps}
 use borrow.Author.Needs.{needs}
 use Rattle.job.proofs.reports.report.Statement.{statement}
 use Rattle.job.proofs.reports.report.Tie as tie
@@ -57,8 +57,8 @@ returns-2 c =
     let read = clear .before .read-job in
     let a = clear .before .before .before .args in
     reports (now (a .job)) (now (a .out)) (job-is (now (a .job)) (read .result) (read .ensures .answered) (clear .if1 .left))
-    (job-length (read .result .job) (ready-at clear)) (c .put-job .ensures .1) (c .put-job .ensures .0)
-    (λ _. subst (λ (r : JobRead). TellsSteps (r .job)) (read .ensures .answered) (tells-steps (read .result .job) (ready-at clear)))
+    (job-length (read .result .job) (ready-at clear .sound) (ready-at clear .started)) (c .put-job .ensures .1) (c .put-job .ensures .0)
+    (λ _. subst (λ (r : JobRead). TellsSteps (r .job)) (read .ensures .answered) (tells-steps (read .result .job) (ready-at clear .sound) (ready-at clear .started)))
 
 pub report-spec : {M : Type 1} → statement M
 report-spec = tie.close (tie.spec (λ c κs. search needs) (λ c κs. search needs) returns put-job-requires returns-2)

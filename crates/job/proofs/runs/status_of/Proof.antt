@@ -1,5 +1,5 @@
 -- Assumes nothing.
-use Rattle.job.specs.Script.{statusOf}
+use Rattle.report.specs.Script.{statusOf}
 use borrow.Author.Needs.{needs}
 use Rattle.job.proofs.runs.status_of.Statement.{statement}
 use Rattle.job.proofs.runs.status_of.Tie as tie

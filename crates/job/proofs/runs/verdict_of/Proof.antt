@@ -1,5 +1,5 @@
 -- Assumes nothing.
-use Rattle.job.specs.Script.{verdictOf}
+use Rattle.report.specs.Script.{verdictOf}
 use borrow.Author.Needs.{needs}
 use Rattle.job.proofs.runs.verdict_of.Statement.{statement}
 use Rattle.job.proofs.runs.verdict_of.Tie as tie

@@ -16,8 +16,8 @@ use Rattle.state.specs.declared.state.State.{State}
 use Rattle.records.specs.Job.{knownOf}
 use Rattle.records.specs.Reader.{readOf}
 use Rattle.records.specs.declared.contents.Job.{Job}
-use Rattle.job.specs.Lines.{refusedLine, familyLine, faultLine, passLine, writeLines, rowLines, endLine, statusLine}
-use Rattle.job.specs.Script.{verdictOf, jobRun, stepRun, statusOf}
+use Rattle.report.specs.Lines.{refusedLine, familyLine, faultLine, passLine, writeLines, rowLines, endLine, statusLine}
+use Rattle.report.specs.Script.{verdictOf, jobRun, stepRun, statusOf}
 
 -- how a run ended, and the status then: the executing slot and the flags are as the run left them
 abbrev pub lastLines : State → Progress → List ℕ

@@ -22,17 +22,17 @@ use Rattle.run.specs.Replay.{endingOf}
 use Rattle.run.specs.declared.answers.Ending.{Ending}
 use Rattle.run.proofs.InState.{full-follows}
 use Rattle.records.specs.Job.{knownOf, logIn}
-use Rattle.records.specs.Started.{executing, codeOf, marksOf, entryOf}
+use Rattle.records.specs.Reader.{Sound}
+use Rattle.records.specs.Started.{Started, executing, codeOf, marksOf, entryOf}
 use Rattle.records.specs.declared.contents.Job.{Job}
-use Rattle.job.specs.Lines.{writeLines, rowLines, endLine, statusLine}
-use Rattle.job.specs.Script.{jobScene, jobRun, stepRun, statusOf}
-use Rattle.job.specs.Report.{runLines, TellsSteps}
-use Rattle.job.specs.Inside.{ReadyToRun}
-use Rattle.job.proofs.ScriptLaws.{script-fits}
+use Rattle.report.specs.Lines.{writeLines, rowLines, endLine, statusLine}
+use Rattle.report.specs.Script.{jobScene, jobRun, stepRun, statusOf}
+use Rattle.report.specs.Report.{runLines, TellsSteps}
+use Rattle.report.proofs.ScriptLaws.{script-fits}
 
-module _ (j : Job) (ready : ReadyToRun j) where
+module _ (j : Job) (sound : Sound j) (started : Started j) where
   fit : Fits (j .state .family) (codeOf (j .state)) (marksOf (j .state)) (entryOf (j .state))
-  fit = fits-script _ _ _ _ (script-fits j ready)
+  fit = fits-script _ _ _ _ (script-fits j started)
 
   -- the family's part of the state's bytes is fetched as those are
   same-scene : SameScene (sceneOf (j .state) (logIn j)) (jobScene j)
@@ -52,7 +52,7 @@ module _ (j : Job) (ready : ReadyToRun j) where
   job-holds : Holds (jobScene j) (executing (j .state)) (j .state .flags) (executingSlot (j .state)) (j .state)
   job-holds = record {
     known-family = fit .known;
-    slot-there = both-left _ _ (executing-executes (j .state) (ready .started .some));
+    slot-there = both-left _ _ (executing-executes (j .state) (started .some));
     same-scene = same-scene;
     same-slot = refl;
     same-flags = refl;
@@ -63,7 +63,7 @@ module _ (j : Job) (ready : ReadyToRun j) where
   unfolding jobRun
   job-stepped =
       let s = j .state in
-      full-follows (jobScene j) (executing s) (s .flags) (executingSlot s) s job-holds (ready .sound .log)
+      full-follows (jobScene j) (executing s) (s .flags) (executingSlot s) s job-holds (sound .log)
 
   -- what is told of a run that ended so
   abbrev told : Ending → Run → List ℕ

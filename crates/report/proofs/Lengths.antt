@@ -15,18 +15,19 @@ use Rattle.refusals.specs.declared.refusals.Fault.{Fault}
 use Rattle.verdict.specs.declared.verdicts.Verdict.{Verdict}
 use Rattle.run.specs.declared.answers.Ending.{Ending}
 use Rattle.records.specs.Job.{knownOf}
+use Rattle.records.specs.Reader.{Sound}
+use Rattle.records.specs.Started.{Started}
 use Rattle.records.specs.declared.contents.Job.{Job}
 use Rattle.text.proofs.DecimalLaws.{within, short}
 use Rattle.text.proofs.HexLaws.{eight}
 use Rattle.text.specs.Digits.{decimal, hexWord}
-use Rattle.job.specs.Lines.{named, hexNamed, refusedLine, familyLine, faultLine, passLine, writeLine, writeLines, rowLine, rowLines, endingText, endLine, statusLine}
-use Rattle.job.specs.Report.{runLines, verdictLines, jobLines}
+use Rattle.report.specs.Lines.{named, hexNamed, refusedLine, familyLine, faultLine, passLine, writeLine, writeLines, rowLine, rowLines, endingText, endLine, statusLine}
+use Rattle.report.specs.Report.{runLines, verdictLines, jobLines}
 use Rattle.run.specs.Replay.{endingOf}
 use Rattle.execution.specs.Execution.{executingSlot}
 use Rattle.state.specs.Slot.{withSlot}
-use Rattle.job.specs.Script.{verdictOf, jobRun, statusOf}
-use Rattle.job.specs.Inside.{ReadyToRun}
-use Rattle.job.proofs.ScriptLaws.{writes-few}
+use Rattle.report.specs.Script.{verdictOf, jobRun, statusOf}
+use Rattle.report.proofs.ScriptLaws.{writes-few}
 
 named-short : (text : List ℕ) (n : ℕ) → length (named text n) ≤ length text + 20
 named-short text n = omega (arith, length-append text (decimal n), short n)
@@ -108,15 +109,15 @@ run-length j writes rows =
 
 -- ---- every report has room in the lent bytes
 
-verdict-length : (j : Job) → ReadyToRun j → length (knownOf j) ≤ 1024 → (v : Verdict) → length (verdictLines j v) ≤ 48327
-verdict-length j ready rows (Verdict.Pass place count writes clocks) =
+verdict-length : (j : Job) → Started j → length (knownOf j) ≤ 1024 → (v : Verdict) → length (verdictLines j v) ≤ 48327
+verdict-length j started rows (Verdict.Pass place count writes clocks) =
     let pass = passLine (place .0) count writes clocks in
-    omega (arith, length-append pass (runLines j), pass-length (place .0) count writes clocks, run-length j (writes-few j ready) rows)
-verdict-length j ready rows (Verdict.Fault fault place) = omega (arith, fault-length (faultNumber fault) (place .0))
+    omega (arith, length-append pass (runLines j), pass-length (place .0) count writes clocks, run-length j (writes-few j started) rows)
+verdict-length j started rows (Verdict.Fault fault place) = omega (arith, fault-length (faultNumber fault) (place .0))
 
-pub job-length : (j : Job) → ReadyToRun j → length (jobLines j) ≤ 65536
+pub job-length : (j : Job) → Sound j → Started j → length (jobLines j) ≤ 65536
 unfolding jobLines
-job-length j ready =
-    let rows : length (knownOf j) ≤ 1024 = omega (arith, length-take (j .counts .rows) (j .known), ready .sound .fit .rows) in
+job-length j sound started =
+    let rows : length (knownOf j) ≤ 1024 = omega (arith, length-take (j .counts .rows) (j .known), sound .fit .rows) in
     let family = j .state .family in
-    omega (arith, length-append (familyLine family) (verdictLines j (verdictOf j)), family-length family, verdict-length j ready rows (verdictOf j))
+    omega (arith, length-append (familyLine family) (verdictLines j (verdictOf j)), family-length family, verdict-length j started rows (verdictOf j))

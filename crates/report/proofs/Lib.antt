@@ -1,0 +1,3 @@
+pub mod ScriptLaws
+pub mod JobRuns
+pub mod Lengths
