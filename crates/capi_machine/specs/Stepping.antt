@@ -45,10 +45,10 @@ stepReply stepped = let told : EffectNumbers = effectNumbers (stepped .effect) i
 -- the reply tells the machine's answer, of which all holds that a step promises; its state stands for the machine's when it
 -- is handed in again
 module _ (image : StateImage) (slot : ℕ) (log : Log) (row used : ℕ) where
-  abbrev pub steppedImage : Stepped
-  steppedImage = stepOf (stateFrom image) (slotNamed slot) log (record { row = row; used = used })
+  abbrev pub stepAnswer : Stepped
+  stepAnswer = stepOf (stateFrom image) (slotNamed slot) log (record { row = row; used = used })
 
   pub record HwsqStep (reply : StepReply) : Type 0 where
-    pub answered : reply ≡ stepReply steppedImage
-    pub steps : Steps (stateFrom image) (slotNamed slot) log (record { row = row; used = used }) steppedImage
-    pub handed-on : stateFrom (reply .state) ≡ steppedImage .state
+    pub answered : reply ≡ stepReply stepAnswer
+    pub steps : Steps (stateFrom image) (slotNamed slot) log (record { row = row; used = used }) stepAnswer
+    pub handed-on : stateFrom (reply .state) ≡ stepAnswer .state

@@ -47,7 +47,7 @@ module _ (j : Job) (ready : ReadyToRun j) where
     -- its run is not refused
     pub run-ends : answer ≡ RunAnswer.Ended (progressOf (jobRun j))
     unfolding runAnswerOf jobRun
-    run-ends = runs .answered ∙ simp (script-fits j (ready .started), le-leb 340 (length old) (omega arith), ready .sound .log)
+    run-ends = runs .answered ∙ simp (script-fits j (ready .started), le-leb 340 (length old) (omega arith), ready .sound .valid)
 
     written : new ≡ writtenInto old (jobRun j .writes)
     unfolding jobRun

@@ -40,7 +40,7 @@ pub record Sound (j : Job) : Type 0 where
   -- no more records of a kind than a job may have
   pub fit : CountsFit (j .counts)
   -- its rows are a log
-  pub log : validLog (logIn j) ≡ true
+  pub valid : validLog (logIn j) ≡ true
 
 -- what reading promises of its answer
 pub record JobReads (bytes : List ℕ) (answer : JobRead) : Type 0 where

@@ -55,12 +55,7 @@ pub fn replay<'a>(
         (sceneFor family (now (code .entry)) (now (marks .entry)) enable (logOf (now (clocks .entry)) (now (known .entry)) (now (values .entry))))
         (slotAtEntry (entry .0) (addr .0) «data») (flagsFromWords «flags_0» «flags_1») (now (writes .entry)) (now (writes .exit)) r ⌝ }
 {
-    let slot = Slot {
-        mode: Mode::Running,
-        ip: entry,
-        addr,
-        data,
-    };
+    let slot = slot_at_entry(entry, addr, data);
     let flags = flags::flags_from_words(flags_0, flags_1);
     let answer = run(
         family,
@@ -80,8 +75,20 @@ pub fn replay<'a>(
     }
 }
 
-// Runs a slot from where it stands, under the log. The writes go into the lent entries, address and data of each; the
-// other entries stay as lent.
+// A slot that runs from the entry, with this ADDR and DATA.
+fn slot_at_entry(entry: CodeAddress, addr: MmioAddress, data: u32) -> Slot
+    ensures { λ r. ⌜ r ≡ slotAtEntry (entry .0) (addr .0) «data» ⌝ }
+{
+    Slot {
+        mode: Mode::Running,
+        ip: entry,
+        addr,
+        data,
+    }
+}
+
+// Runs a slot from where it stands, if its IP may be an entry, under the log. The writes go into the lent entries, address
+// and data of each; the other entries stay as lent.
 pub fn run<'a>(
     family: u8,
     code: &'a [u8],
@@ -262,8 +269,8 @@ fn run_turns<'a>(
         if limit <= turns {
             break progress;
         }
-        let held = progress.slot;
-        let mode = held.mode;
+        let present = progress.slot;
+        let mode = present.mode;
         if !state::is_running(mode) {
             break progress;
         }
@@ -290,7 +297,7 @@ fn ending_of(mode: Mode) -> Ending
     }
 }
 
-// What is answered of a run; what is left of a log fits 64 bits.
+// What replay answers of a run. It asks that what is left of the log fits 64 bits, as it does of every log.
 fn told(last: Progress, clocks: &[u64]) -> Replayed
     requires { ⌜ leftOf (now clocks) (last .place) < 2 ^ 64 ⌝ }
     ensures { λ r. ⌜ r ≡ toldOf (now (clocks .entry)) last ⌝ }

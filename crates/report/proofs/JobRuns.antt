@@ -7,6 +7,8 @@ use lib.Dec.{eqb}
 use lib.ListN.{length-take}
 use lib.Seq.{getD-take}
 use Rattle.families.specs.Family.{codeSize}
+use borrow.Author.Tests.{eq-eqb}
+use Rattle.isa.specs.declared.addresses.CodeAddress.{CodeAddress}
 use Rattle.isa.proofs.Tests.{both-left}
 use Rattle.fetch.proofs.FetchLaws.{same-fetch}
 use Rattle.state.specs.Slot.{slotOf, withSlot}
@@ -22,12 +24,12 @@ use Rattle.run.specs.Replay.{endingOf}
 use Rattle.run.specs.declared.answers.Ending.{Ending}
 use Rattle.run.proofs.InState.{full-follows}
 use Rattle.records.specs.Job.{knownOf, logIn}
-use Rattle.records.specs.Reader.{Sound}
+use Rattle.records.specs.Reader.{readOf, Sound}
 use Rattle.records.specs.Started.{Started, executing, codeOf, marksOf, entryOf}
 use Rattle.records.specs.declared.contents.Job.{Job}
-use Rattle.report.specs.Lines.{writeLines, rowLines, endLine, statusLine}
+use Rattle.report.specs.Lines.{familyLine, passLine, writeLines, rowLines, endLine, statusLine}
 use Rattle.report.specs.Script.{jobScene, jobRun, stepRun, statusOf}
-use Rattle.report.specs.Report.{runLines, TellsSteps}
+use Rattle.report.specs.Report.{runLines, jobLines, reportOf, stepLines, Passed}
 use Rattle.report.proofs.ScriptLaws.{script-fits}
 
 module _ (j : Job) (sound : Sound j) (started : Started j) where
@@ -63,18 +65,25 @@ module _ (j : Job) (sound : Sound j) (started : Started j) where
   unfolding jobRun
   job-stepped =
       let s = j .state in
-      full-follows (jobScene j) (executing s) (s .flags) (executingSlot s) s job-holds (sound .log)
+      full-follows (jobScene j) (executing s) (s .flags) (executingSlot s) s job-holds (sound .valid)
 
   -- what is told of a run that ended so
   abbrev told : Ending → Run → List ℕ
   told ending r = writeLines (r .writes) ++ rowLines 0 (knownOf j) ++ (endLine ending (r .place) ++ statusLine (statusOf (r .state)))
 
-  pub tells-steps : TellsSteps j
-  unfolding runLines
-  tells-steps =
+  pub follows-steps : runLines j ≡ stepLines j
+  unfolding runLines stepLines
+  follows-steps =
       let s = j .state in
       let r = jobRun j in
       let back : r .slot .mode ≡ slotOf (withSlot s (executingSlot s) (r .slot) (r .flags)) (executingSlot s) .mode
       = ap (λ (slot : Slot). slot .mode) (sym (slot-back (executingSlot s) s (r .slot) (r .flags))) in
       ap (λ (mode : Mode). told (endingOf mode) (inState s (executingSlot s) r)) back
       ∙ ap (λ (r : Run). told (endingOf (slotOf (r .state) (executingSlot s) .mode)) r) (sym job-stepped)
+
+-- the report on a passed script tells its steps
+pub tells-steps : (bytes : List ℕ) {place : CodeAddress} {count writes clocks : ℕ} → Passed (readOf bytes) place count writes clocks
+    → (let j = readOf bytes .job in
+    runLines j ≡ stepLines j → reportOf bytes ≡ familyLine (j .state .family) ++ (passLine (place .0) count writes clocks ++ stepLines j))
+unfolding reportOf jobLines
+tells-steps bytes p follows = rw (← follows) (simp (eq-eqb (readOf bytes .number) 0 (p .faultless), p .passes))

@@ -21,7 +21,8 @@ use Rattle.records.specs.declared.contents.Job.{Job}
 use Rattle.text.proofs.DecimalLaws.{within, short}
 use Rattle.text.proofs.HexLaws.{eight}
 use Rattle.text.specs.Digits.{decimal, hexWord}
-use Rattle.report.specs.Lines.{named, hexNamed, refusedLine, familyLine, faultLine, passLine, writeLine, writeLines, rowLine, rowLines, endingText, endLine, statusLine}
+use Rattle.report.specs.Lines.{named, hexNamed, refusedLine, familyLine, faultLine, passLine}
+use Rattle.report.specs.Lines.{writeLine, writeLines, rowLine, rowLines, endingText, endLine, statusLine}
 use Rattle.report.specs.Report.{runLines, verdictLines, jobLines}
 use Rattle.run.specs.Replay.{endingOf}
 use Rattle.execution.specs.Execution.{executingSlot}

@@ -5,6 +5,7 @@ use mathlib.Core.Bool.{cond}
 use mathlib.Core.List.{List, _++_}
 use lib.Dec.{eqb}
 use lib.ListN.{length, take, drop}
+use Rattle.isa.specs.declared.addresses.CodeAddress.{CodeAddress}
 use Rattle.refusals.specs.Number.{faultNumber}
 use Rattle.refusals.specs.declared.refusals.Fault.{Fault}
 use Rattle.verdict.specs.declared.verdicts.Verdict.{Verdict}
@@ -16,6 +17,7 @@ use Rattle.state.specs.declared.state.State.{State}
 use Rattle.records.specs.Job.{knownOf}
 use Rattle.records.specs.Reader.{readOf}
 use Rattle.records.specs.declared.contents.Job.{Job}
+use Rattle.records.specs.declared.reader.JobRead.{JobRead}
 use Rattle.report.specs.Lines.{refusedLine, familyLine, faultLine, passLine, writeLines, rowLines, endLine, statusLine}
 use Rattle.report.specs.Script.{verdictOf, jobRun, stepRun, statusOf}
 
@@ -39,12 +41,17 @@ jobLines j = familyLine (j .state .family) ++ verdictLines j (verdictOf j)
 unfoldable pub reportOf : List ℕ → List ℕ
 reportOf bytes = let read = readOf bytes in cond (eqb (read .number) 0) (jobLines (read .job)) (refusedLine (read .number) (read .at))
 
--- what is told of a run is the machine's own: the writes of its steps, how the slot ended and where, and STATUS in the state that the last step returned
-abbrev pub TellsSteps : Job → Type 0
-TellsSteps j =
+-- what the machine's own steps give of a run: their writes, how the slot ended and where, and STATUS in the state that the last one returned
+unfoldable pub stepLines : Job → List ℕ
+stepLines j =
     let r = stepRun j in
     let ending = endingOf (slotOf (r .state) (executingSlot (j .state)) .mode) in
-    runLines j ≡ writeLines (r .writes) ++ rowLines 0 (knownOf j) ++ (endLine ending (r .place) ++ statusLine (statusOf (r .state)))
+    writeLines (r .writes) ++ rowLines 0 (knownOf j) ++ (endLine ending (r .place) ++ statusLine (statusOf (r .state)))
+
+-- a job without fault, and its script passed
+pub record Passed (read : JobRead) (place : CodeAddress) (count writes clocks : ℕ) : Type 0 where
+  pub faultless : read .number ≡ 0
+  pub passes : verdictOf (read .job) ≡ Verdict.Pass place count writes clocks
 
 -- what is promised of the answer, and of the lent bytes, old and new: the report and then as lent
 pub record Reports (bytes old new : List ℕ) (answer : ℕ) : Type 0 where
@@ -52,5 +59,8 @@ pub record Reports (bytes old new : List ℕ) (answer : ℕ) : Type 0 where
   pub contents : new ≡ reportOf bytes ++ drop (length (reportOf bytes)) old
   -- so many of the lent bytes can be handed on as a part
   pub counted : (answer ≤ length new) × (answer ≡ length (take answer new))
-  -- of every job without fault, whatever HWSQ_ENABLE and the flags are
-  pub stepped : readOf bytes .number ≡ 0 → TellsSteps (readOf bytes .job)
+  -- of every job without fault, whatever HWSQ_ENABLE and the flags are, the run is the machine's own
+  pub follows : readOf bytes .number ≡ 0 → runLines (readOf bytes .job) ≡ stepLines (readOf bytes .job)
+  -- and of a passed script the lent bytes tell that run
+  pub tells : (place : CodeAddress) (count writes clocks : ℕ) → Passed (readOf bytes) place count writes clocks
+      → (let j = readOf bytes .job in take answer new ≡ familyLine (j .state .family) ++ (passLine (place .0) count writes clocks ++ stepLines j))

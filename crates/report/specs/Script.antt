@@ -1,5 +1,6 @@
 -- The script that a job starts, and its run (01, "A job, and one report whole" and "Demand 3's words").
 use Prim.Native.Nat.{ℕ}
+use Rattle.log.specs.Log.{logOf}
 use Rattle.state.specs.declared.state.State.{State}
 use Rattle.registers.specs.Access.{readOf}
 use Rattle.registers.specs.declared.access.Reading.{Reading}
@@ -9,7 +10,7 @@ use Rattle.verdict.specs.declared.verdicts.Verdict.{Verdict}
 use Rattle.run.specs.Run.{Run}
 use Rattle.run.specs.SlotRun.{Scene, SlotRun, sceneFor}
 use Rattle.run.specs.Replay.{fullSlotRun, fullRun}
-use Rattle.records.specs.Job.{rangesOf, logIn}
+use Rattle.records.specs.Job.{rangesOf, clocksOf, knownOf, valuesOf, logIn}
 use Rattle.records.specs.Started.{executing, codeOf, marksOf, entryOf}
 use Rattle.records.specs.declared.contents.Job.{Job}
 
@@ -27,7 +28,7 @@ jobRun j = fullSlotRun (jobScene j) (executing (j .state)) (j .state .flags)
 
 -- the machine's own run: steps of the executing slot from the job's state, under the job's rows
 abbrev pub stepRun : Job → Run
-stepRun j = fullRun (executingSlot (j .state)) (logIn j) (j .state)
+stepRun j = fullRun (executingSlot (j .state)) (logOf (clocksOf j) (knownOf j) (valuesOf j)) (j .state)
 
 -- the word that was read
 abbrev pub wordOf : Reading → ℕ

@@ -70,4 +70,11 @@ module _ (x : Scene) {entry : ℕ} (fit : Fits (x .family) (x .code) (x .marks) 
       }
 
 pub is-held : (x : Scene) (slot : Slot) (flags : Flags) → IsHeld x slot flags
-is-held x slot flags fits = (stateWith x slot flags, state-holds x (fits-script (x .family) (x .code) (x .marks) (slot .ip .0) fits) slot flags)
+is-held x slot flags fits =
+    let fit = fits-script (x .family) (x .code) (x .marks) (slot .ip .0) fits in
+    let small = size-small (x .family) in (
+      stateWith x slot flags,
+      filled-size (x .code) (omega (arith, fit .code-size)),
+      filled-size (x .marks) (omega (arith, fit .marks-size)),
+      state-holds x fit slot flags,
+    )

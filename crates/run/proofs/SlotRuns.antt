@@ -79,7 +79,7 @@ module _ (x : Scene) where
 module _ (x y : Scene) (same : SameScene x y) where
   -- take the same turns
   pub same-turn : (r : SlotRun) → nextTurn x r ≡ nextTurn y r
-  same-turn r = rw (same .fetches (r .slot .ip .0), same .family, same .enable, same .log) refl
+  same-turn r = cc (same .fetches (r .slot .ip .0), same .family, same .enable, same .log)
 
   -- and have the same runs
   pub same-run : (n : ℕ) (r : SlotRun) → slotRunFor x n r ≡ slotRunFor y n r

@@ -21,7 +21,7 @@ use Rattle.state.specs.declared.state.State.{State}
 use Rattle.turn.specs.declared.turn.Effect.{Effect}
 use Rattle.script.specs.Input.{scriptFits}
 use Rattle.run.specs.Run.{Run, Write, begun, nextStep, runFor}
-use Rattle.run.specs.SlotRun.{Scene, SlotRun, slotBegun, slotRunFor, inState, Holds}
+use Rattle.run.specs.SlotRun.{Scene, SlotRun, slotBegun, slotRunFor, inState, slotRunOf, Holds}
 use Rattle.run.specs.declared.answers.Ending.{Ending}
 use Rattle.run.specs.declared.answers.Progress.{Progress}
 use Rattle.run.specs.declared.answers.RunAnswer.{RunAnswer}
@@ -106,9 +106,9 @@ writtenInto lent writes = entriesOf writes ++ drop (2 * length writes) lent
 abbrev pub slotAtEntry : ℕ → ℕ → ℕ → Slot
 slotAtEntry entry addr word = record { mode = Mode.Running; ip = record { 0 = entry }; addr = record { 0 = addr }; «data» = word }
 
--- a scene, and the slot and the flags from which it is run
+-- a scene, and the slot and the flags that a run begins with
 module _ (x : Scene) (slot : Slot) (flags : Flags) where
-  -- the script does not fit, fewer than 340 entries are lent, the log is none: tested in this order; then how far the run came
+  -- the script does not fit, fewer than 340 entries are lent, the columns are no log: tested in this order; then how far the run came
   unfoldable pub runAnswerOf : ℕ → RunAnswer
   runAnswerOf lent =
       cond (scriptFits (x .family) (x .code) (x .marks) (slot .ip .0))
@@ -132,47 +132,54 @@ module _ (x : Scene) (slot : Slot) (flags : Flags) where
   lentAfter lent (RunAnswer.Ended last) = writtenInto lent (fullSlotRun x slot flags .writes)
   lentAfter lent (RunAnswer.Refused why) = lent
 
-  -- it is the machine's own run: in every state that holds the slot, so many steps of it are so many turns, and all else of the state stays
+  -- ---- that it is the machine's own run
+
+  -- in every state that holds the slot so many steps are so many turns of it, and all else of the state stays
   abbrev pub FollowsSteps : Type 0
   FollowsSteps = (name : SlotName) (s : State) → Holds x slot flags name s → validLog (x .log) ≡ true
       → (n : ℕ) → runFor name (x .log) n (begun s) ≡ inState s name (slotRunFor x n (slotBegun slot flags))
 
-  -- of a script that fits there is such a state
+  -- a script that fits is held by a state, whose arrays have room for 512 bytes
   abbrev pub IsHeld : Type 0
-  IsHeld = scriptFits (x .family) (x .code) (x .marks) (slot .ip .0) ≡ true → (s : State) × (Holds x slot flags SlotName.A s)
+  IsHeld = scriptFits (x .family) (x .code) (x .marks) (slot .ip .0) ≡ true
+      → (s : State) × (length (s .code) ≡ 512) × (length (s .marks) ≡ 512) × (Holds x slot flags SlotName.A s)
+
+  -- what holds of a run that ended, in every state that holds the slot, and of the lent entries, old and new
+  pub record RunEnds (old new : List ℕ) (last : Progress) : Type 0 where
+    -- it came as far as the machine's steps come
+    pub came : (name : SlotName) (s : State) → Holds x slot flags name s → last ≡ progressOf (slotRunOf name (fullRun name (x .log) s))
+    -- and wrote what they write
+    pub wrote : (name : SlotName) (s : State) → Holds x slot flags name s → new ≡ writtenInto old (fullRun name (x .log) s .writes)
+    -- a slot that still runs at the end is one that the next step stops
+    pub stops : last .slot .mode ≡ Mode.Running
+        → (why : Unreadable)
+        × ((name : SlotName) (s : State) → Holds x slot flags name s → nextStep name (x .log) (fullRun name (x .log) s) .effect ≡ Effect.Stopped why)
+    -- the clock law: the log's total is what waits spent, what ewaits passed by and what is left
+    pub clocked : leftOf (x .log .clocks) (record { row = 0; used = 0 }) ≡ last .waited + last .searched + leftOf (x .log .clocks) (last .place)
+
+  -- a refusal ends no run
+  abbrev pub EndsRight : List ℕ → List ℕ → RunAnswer → Type 0
+  EndsRight old new (RunAnswer.Ended last) = RunEnds old new last
+  EndsRight old new (RunAnswer.Refused why) = Unit {0}
 
   -- what the run of a slot promises of its answer and of the lent entries, old and new
   pub record RunsSlot (old new : List ℕ) (answer : RunAnswer) : Type 0 where
     pub answered : answer ≡ runAnswerOf (length old)
     pub numbered : runNumber answer ≡ runRefusal (length old)
     pub lent : new ≡ lentAfter old answer
-    pub stepped : FollowsSteps
+    pub ends : EndsRight old new answer
+    pub follows : FollowsSteps
     pub held : IsHeld
 
-  -- ---- replay
+  -- ---- replay: what is told of such a run
 
   abbrev pub replayOf : ℕ → ReplayAnswer
   replayOf lent = toldAnswer (x .log .clocks) (runAnswerOf lent)
 
-  -- what holds of the end of a run
-  pub record RunEnds (told : Replayed) : Type 0 where
-    -- a slot that still runs at the end is one that the next step stops, in every state that holds it
-    pub stops : told .ending ≡ Ending.Stop
-        → (why : Unreadable)
-        × ((name : SlotName) (s : State) → Holds x slot flags name s → nextStep name (x .log) (fullRun name (x .log) s) .effect ≡ Effect.Stopped why)
-    -- the clock law: the log's total is what waits spent, what ewaits passed by and what is left
-    pub clocked : leftOf (x .log .clocks) (record { row = 0; used = 0 }) ≡ told .waited + told .searched + told .left
-
-  -- a refusal ends no run
-  abbrev pub EndsRight : ReplayAnswer → Type 0
-  EndsRight (ReplayAnswer.Ended told) = RunEnds told
-  EndsRight (ReplayAnswer.Refused why) = Unit {0}
-
-  -- what replay promises of its answer and of the lent entries, old and new
+  -- what replay promises of its answer and of the lent entries, old and new: it tells the answer of a run of which all that holds
   pub record Replays (old new : List ℕ) (answer : ReplayAnswer) : Type 0 where
     pub answered : answer ≡ replayOf (length old)
     pub numbered : answerNumber answer ≡ runRefusal (length old)
-    pub lent : new ≡ lentAfter old (runAnswerOf (length old))
-    pub ends : EndsRight answer
-    pub stepped : FollowsSteps
-    pub held : IsHeld
+    pub ran : RunAnswer
+    pub tells : answer ≡ toldAnswer (x .log .clocks) ran
+    pub runs : RunsSlot old new ran

@@ -1,4 +1,4 @@
-// What replay answers of a run.
+// What the run of a slot answers, and what replay tells of it.
 use flags::Flags;
 use isa::CodeAddress;
 use isa::MmioAddress;

@@ -1,31 +1,40 @@
 -- Every report has room in the lent bytes. Assumes nothing.
 use denote.Ref.{now}
 use Prim.Native.Nat.{ℕ, _≤_}
-use mathlib.Core.Path.{_≡_, ap, subst, _∙_}
+use mathlib.Core.Path.{_≡_, refl, ap, ap₂, subst, _∙_}
 use mathlib.Core.List.{List}
 use native.Mathlib.Omega.{arith}
-use lib.ListN.{length}
+use lib.ListN.{length, take, drop}
+use lib.Seq.{take-at}
 use borrow.Author.Tests.{eq-eqb, ne-eqb}
 use Rattle.text.specs.Put.{Stored}
 use Rattle.records.specs.Reader.{readOf}
 use Rattle.records.specs.declared.reader.JobRead.{JobRead}
 use Rattle.report.specs.Lines.{refusedLine}
-use Rattle.report.specs.Report.{jobLines, reportOf, TellsSteps, Reports}
+use Rattle.report.specs.Report.{runLines, jobLines, reportOf, stepLines, Reports}
 use Rattle.job.specs.Inside.{ReadyToRun}
 use Rattle.text.proofs.PutLaws.{whole, counts, stored-as}
 use Rattle.report.proofs.Lengths.{refused-length, job-length}
-use Rattle.report.proofs.JobRuns.{tells-steps}
+use Rattle.report.proofs.JobRuns.{follows-steps, tells-steps}
 use borrow.Author.Needs.{needs}
 use Rattle.job.proofs.reports.report.Statement.{statement}
 use Rattle.job.proofs.reports.report.Tie as tie
 
 -- the defined report, at the start of the lent bytes
 reports : (bytes old : List ℕ) {t : List ℕ} {r : ℕ} {new : List ℕ} → t ≡ reportOf bytes → length t ≤ 65536 → length old ≡ 65536 → Stored old 0 t r new
-    → (readOf bytes .number ≡ 0 → TellsSteps (readOf bytes .job)) → Reports bytes old new r
-reports bytes old e fits size h steps =
+    → (readOf bytes .number ≡ 0 → runLines (readOf bytes .job) ≡ stepLines (readOf bytes .job)) → Reports bytes old new r
+reports bytes old e fits size h follows =
     let room : length (reportOf bytes) ≤ length old = subst (λ (t : List ℕ). length t ≤ length old) e (omega arith) in
-    let w = whole old (reportOf bytes) room (stored-as old 0 e h) in
-    record { answered = w .0; contents = w .1; counted = counts old (reportOf bytes) room (stored-as old 0 e h); stepped = steps }
+    let stored = stored-as old 0 e h in
+    let w = whole old (reportOf bytes) room stored in
+    let told = ap₂ take (w .0) (w .1) ∙ take-at (reportOf bytes) (drop (length (reportOf bytes)) old) (length (reportOf bytes)) refl in
+    record {
+      answered = w .0;
+      contents = w .1;
+      counted = counts old (reportOf bytes) room stored;
+      follows = follows;
+      tells = λ place count writes clocks p. told ∙ tells-steps bytes p (follows (p .faultless));
+    }
 
 refusal-is : (bytes : List ℕ) (read : JobRead) → read ≡ readOf bytes → (read .number ≡ 0 → ⊥) → refusedLine (read .number) (read .at) ≡ reportOf bytes
 unfolding reportOf
@@ -58,7 +67,9 @@ returns-2 c =
     let a = clear .before .before .before .args in
     reports (now (a .job)) (now (a .out)) (job-is (now (a .job)) (read .result) (read .ensures .answered) (clear .if1 .left))
     (job-length (read .result .job) (ready-at clear .sound) (ready-at clear .started)) (c .put-job .ensures .1) (c .put-job .ensures .0)
-    (λ _. subst (λ (r : JobRead). TellsSteps (r .job)) (read .ensures .answered) (tells-steps (read .result .job) (ready-at clear .sound) (ready-at clear .started)))
+    (λ _.
+    subst (λ (r : JobRead). runLines (r .job) ≡ stepLines (r .job)) (read .ensures .answered)
+    (follows-steps (read .result .job) (ready-at clear .sound) (ready-at clear .started)))
 
 pub report-spec : {M : Type 1} → statement M
 report-spec = tie.close (tie.spec (λ c κs. search needs) (λ c κs. search needs) returns put-job-requires returns-2)

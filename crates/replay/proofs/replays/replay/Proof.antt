@@ -3,7 +3,6 @@ use denote.Ref.{now}
 use Prim.Native.Nat.{ℕ}
 use mathlib.Core.Path.{_≡_, ap, sym, subst, _∙_}
 use mathlib.Core.List.{List}
-use lib.ListN.{length}
 use borrow.Author.Needs.{needs}
 use Rattle.waits.proofs.LeftLaws.{left-fits}
 use Rattle.log.specs.Log.{logOf}
@@ -11,32 +10,31 @@ use Rattle.flags.specs.Flags.{flagsFromWords}
 use Rattle.flags.specs.declared.flags.Flags.{Flags}
 use Rattle.state.specs.declared.slots.Slot.{Slot}
 use Rattle.run.specs.SlotRun.{Scene, sceneFor}
-use Rattle.run.specs.Replay.{slotAtEntry, toldAnswer, answerNumber, lentAfter, EndsRight, RunsSlot, Replays}
+use Rattle.run.specs.Replay.{slotAtEntry, toldAnswer, answerNumber, RunsSlot, Replays}
 use Rattle.run.specs.declared.answers.ReplayAnswer.{ReplayAnswer}
 use Rattle.run.specs.declared.answers.RunAnswer.{RunAnswer}
-use Rattle.run.proofs.ReplayEnds.{ended-valid, replay-ends, replay-numbered}
+use Rattle.run.proofs.ReplayEnds.{told-number, ended-valid}
 use Rattle.replay.proofs.replays.replay.Statement.{statement}
 use Rattle.replay.proofs.replays.replay.Tie as tie
 
 -- what a run promises and what is told of it make what replay promises
 replays : (x : Scene) (slot : Slot) (flags : Flags) (old new : List ℕ) (ran : RunAnswer) (answer : ReplayAnswer)
-    → RunsSlot x slot flags old new ran
-    → answer ≡ toldAnswer (x .log .clocks) ran → Replays x slot flags old new answer
-replays x slot flags old new ran answer runs told =
-    let e = told ∙ ap (toldAnswer (x .log .clocks)) (runs .answered) in
-    record {
-      answered = e;
-      numbered = ap answerNumber e ∙ replay-numbered x slot flags (length old);
-      lent = runs .lent ∙ ap (lentAfter x slot flags old) (runs .answered);
-      ends = subst (EndsRight x slot flags) (sym e) (replay-ends x slot flags (length old));
-      stepped = runs .stepped;
-      held = runs .held;
-    }
+    → RunsSlot x slot flags old new ran → answer ≡ toldAnswer (x .log .clocks) ran → Replays x slot flags old new answer
+replays x slot flags old new ran answer runs told = record {
+  answered = told ∙ ap (toldAnswer (x .log .clocks)) (runs .answered);
+  numbered = ap answerNumber told ∙ told-number (x .log .clocks) ran ∙ runs .numbered;
+  ran = ran;
+  tells = told;
+  runs = runs;
+}
 
 -- the run that was asked for: its slot and flags are those that the words name
 module _ (c : tie.After-run) where
+  abbrev asked : tie.After-flags-from-words
+  asked = c .before .before
+
   abbrev columns : tie.After-shared-slice-known5
-  columns = c .before .before .before .before
+  columns = asked .before .before .before
 
   abbrev entered : tie.Start
   entered = columns .before .before .before .before .before
@@ -52,10 +50,13 @@ module _ (c : tie.After-run) where
   abbrev flags : Flags
   flags = let a = entered .args in flagsFromWords (a .flags-0) (a .flags-1)
 
-  runs : {new : List ℕ} → RunsSlot scene slot (c .before .before .flags-from-words .result) (now (entered .args .writes)) new (c .run .result)
-      → RunsSlot scene slot flags (now (entered .args .writes)) new (c .run .result)
+  abbrev Runs : Slot → Flags → List ℕ → Type 0
+  Runs slot flags new = RunsSlot scene slot flags (now (entered .args .writes)) new (c .run .result)
+
+  runs : {new : List ℕ} → Runs (asked .before .slot-at-entry .result) (asked .flags-from-words .result) new → Runs slot flags new
   runs {new} h =
-      subst (λ (f : Flags). RunsSlot scene slot f (now (entered .args .writes)) new (c .run .result)) (c .before .before .flags-from-words .ensures) h
+      subst (λ (f : Flags). Runs slot f new) (asked .flags-from-words .ensures)
+      (subst (λ (s : Slot). Runs s (asked .flags-from-words .result) new) (asked .before .slot-at-entry .ensures) h)
 
 told-requires : tie.Need-told-requires
 told-requires c κs =
@@ -80,6 +81,7 @@ pub replay-spec : {M : Type 1} → statement M
 replay-spec =
     tie.close
     (tie.spec
+    (λ c κs. search needs)
     (λ c κs. search needs)
     (λ c κs. search needs)
     (λ c. search needs)

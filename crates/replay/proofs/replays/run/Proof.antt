@@ -1,43 +1,24 @@
 -- The tests come in the definition's order; the loop's end is the run that is asked for. Assumes nothing.
-use Prim.Native.Nat.{ℕ}
-use mathlib.Core.Path.{_≡_, refl, ap, sym, _∙_}
-use mathlib.Core.List.{List}
+use mathlib.Core.Path.{refl, ap, sym, _∙_}
 use native.Mathlib.Omega.{arith}
-use lib.ListN.{length}
 use borrow.Author.Needs.{needs}
 use borrow.Author.Tests.{le-leb, lt-leb, not-true, not-false}
-use Rattle.flags.specs.declared.flags.Flags.{Flags}
-use Rattle.state.specs.declared.slots.Slot.{Slot}
 use Rattle.script.proofs.Scripts.{fits-script}
-use Rattle.run.specs.SlotRun.{Scene}
-use Rattle.run.specs.Replay.{runNumber, runAnswerOf, lentAfter, RunsSlot}
+use Rattle.run.specs.Replay.{runAnswerOf}
 use Rattle.run.specs.declared.answers.RunAnswer.{RunAnswer}
-use Rattle.run.proofs.InState.{follows}
-use Rattle.run.proofs.Held.{is-held}
-use Rattle.run.proofs.ReplayEnds.{run-numbered}
+use Rattle.run.proofs.ReplayEnds.{runs-slot}
 use Rattle.replay.proofs.replays.run.Statement.{statement}
 use Rattle.replay.proofs.replays.run.Tie as tie
 
--- the defined answer has its number, and the run is the machine's
-runs : {x : Scene} {slot : Slot} {flags : Flags} {old new : List ℕ} {answer : RunAnswer}
-    → answer ≡ runAnswerOf x slot flags (length old) → new ≡ lentAfter x slot flags old answer → RunsSlot x slot flags old new answer
-runs {x} {slot} {flags} {old} e l = record {
-  answered = e;
-  numbered = ap runNumber e ∙ run-numbered x slot flags (length old);
-  lent = l;
-  stepped = follows x slot flags;
-  held = is-held x slot flags;
-}
-
 returns : tie.Need-returns
 unfolding runAnswerOf
-returns c = runs (simp (sym (c .before .script-fits .ensures) ∙ not-true _ (c .if1 .taken))) refl
+returns c = runs-slot (simp (sym (c .before .script-fits .ensures) ∙ not-true _ (c .if1 .taken))) refl
 
 returns-2 : tie.Need-returns-2
 unfolding runAnswerOf
 returns-2 c =
     let e = c .before in
-    runs (simp (sym (e .before .script-fits .ensures) ∙ not-false _ (e .if1 .left), lt-leb _ _ (c .if2 .taken))) refl
+    runs-slot (simp (sym (e .before .script-fits .ensures) ∙ not-false _ (e .if1 .left), lt-leb _ _ (c .if2 .taken))) refl
 
 returns-3 : tie.Need-returns-3
 unfolding runAnswerOf
@@ -46,7 +27,7 @@ returns-3 c =
     let e = room .before in
     let fits = sym (e .before .script-fits .ensures) ∙ not-false _ (e .if1 .left) in
     let log = sym (c .before .valid-log .ensures) ∙ not-true _ (c .if3 .taken) in
-    runs (simp (fits, le-leb _ _ (room .if2 .left), log)) refl
+    runs-slot (simp (fits, le-leb _ _ (room .if2 .left), log)) refl
 
 run-turns-requires : tie.Need-run-turns-requires
 run-turns-requires c κs =
@@ -65,7 +46,7 @@ returns-4 c =
     let e = room .before in
     let fits = sym (e .before .script-fits .ensures) ∙ not-false _ (e .if1 .left) in
     let log = sym (l .before .valid-log .ensures) ∙ not-false _ (l .if3 .left) in
-    runs (ap RunAnswer.Ended (t .run-turns .ensures .at-run) ∙ simp (fits, le-leb _ _ (room .if2 .left), log)) (t .run-turns .ensures .lent)
+    runs-slot (ap RunAnswer.Ended (t .run-turns .ensures .at-run) ∙ simp (fits, le-leb _ _ (room .if2 .left), log)) (t .run-turns .ensures .lent)
 
 pub run-spec : {M : Type 1} → statement M
 run-spec =
