@@ -3,7 +3,6 @@ ghost use mathlib.Core.Path.{_≡_};
 ghost use Prim.Native.Nat.{_≤_};
 ghost use lib.ListN.{length, take};
 ghost use Rattle.text.specs.Put.{Stored};
-ghost use Rattle.log.specs.Validity.{maxRows};
 ghost use Rattle.report.specs.Lines.{rowLines};
 ghost use Rattle.report.specs.Report.{lastLines, runLines, jobLines, Reports};
 ghost use Rattle.job.specs.Inside.{ReadyToRun, RanJob};
@@ -73,19 +72,18 @@ fn put_job(out: &mut [u8; 65536], job: Job) -> usize
 
 // The lines on the run of a passed script.
 fn put_run(out: &mut [u8; 65536], at: usize, job: Job, last: Progress, entries: &[u32]) -> usize
-    requires { ⌜ (job .counts .rows ≤ maxRows) × RanJob job last (now entries) ⌝ }
+    requires { ⌜ (job .counts .rows ≤ length (job .known)) × RanJob job last (now entries) ⌝ }
     ensures { λ r. ⌜ Stored (now (out .entry)) at (runLines job) r (now (out .exit)) ⌝ }
 {
     let a = put_writes(out, at, entries);
-    let known = job.known;
-    let b = put_known(out, a, known, job.counts.rows);
+    let b = put_known(out, a, &job.known, job.counts.rows);
     put_last(out, b, job.state, last)
 }
 
 // A line for each of the first rows of a column.
-fn put_known(out: &mut [u8; 65536], at: usize, known: [u32; 1024], rows: usize) -> usize
-    requires { ⌜ rows ≤ maxRows ⌝ }
-    ensures { λ r. ⌜ Stored (now (out .entry)) at (rowLines 0 (take rows known)) r (now (out .exit)) ⌝ }
+fn put_known(out: &mut [u8; 65536], at: usize, known: &[u32], rows: usize) -> usize
+    requires { ⌜ rows ≤ length (now known) ⌝ }
+    ensures { λ r. ⌜ Stored (now (out .entry)) at (rowLines 0 (take rows (now (known .entry)))) r (now (out .exit)) ⌝ }
 {
     put_rows(out, at, &known[..rows])
 }

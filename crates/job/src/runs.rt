@@ -1,17 +1,17 @@
 // The script that a job starts: its audit and its run; and STATUS.
 ghost use mathlib.Core.Path.{_≡_};
 ghost use Prim.Native.Nat.{_*_, _≤_};
-ghost use lib.ListN.{take};
+ghost use lib.ListN.{length, take};
+ghost use Rattle.families.specs.Family.{codeSize};
 ghost use Rattle.fetch.specs.Fetch.{codeRam};
 ghost use Rattle.verdict.specs.Auditor.{auditOf};
 ghost use Rattle.run.specs.Replay.{RunsSlot};
 ghost use Rattle.run.specs.SlotRun.{sceneFor};
 ghost use Rattle.log.specs.Log.{logOf};
-ghost use Rattle.log.specs.Validity.{maxRows};
 ghost use Rattle.script.specs.Input.{maxRanges};
 ghost use Rattle.records.specs.Job.{CountsFit};
 ghost use Rattle.report.specs.Script.{verdictOf, wordOf, statusOf};
-ghost use Rattle.job.specs.Inside.{RunsJob};
+ghost use Rattle.job.specs.Inside.{RunsJob, ReadyToRun};
 use execution::executing_slot;
 use flags::Flags;
 use isa::CodeAddress;
@@ -70,22 +70,24 @@ pub(crate) fn verdict_of(job: Job) -> Verdict
 }
 
 // The run of the script in a family's part of these bytes, over the first rows of these columns.
-fn run_code(
+fn run_code<'a>(
     family: u8,
-    code: [u8; 512],
-    marks: [u8; 512],
+    code: &'a [u8],
+    marks: &'a [u8],
     slot: Slot,
     flags: Flags,
     enable: bool,
-    clocks: [u64; 1024],
-    known: [u32; 1024],
-    values: [u32; 1024],
+    clocks: &'a [u64],
+    known: &'a [u32],
+    values: &'a [u32],
     rows: usize,
     writes: &mut [u32],
 ) -> RunAnswer
-    requires { ⌜ rows ≤ maxRows ⌝ }
+    requires { ⌜ (codeSize family ≤ length (now code)) × (codeSize family ≤ length (now marks)) ⌝ }
+    requires { ⌜ (rows ≤ length (now clocks)) × (rows ≤ length (now known)) × (rows ≤ length (now values)) ⌝ }
     ensures { λ r. ⌜ RunsSlot
-        (sceneFor family (codeRam family code) (codeRam family marks) enable (logOf (take rows clocks) (take rows known) (take rows values)))
+        (sceneFor family (codeRam family (now (code .entry))) (codeRam family (now (marks .entry))) enable
+        (logOf (take rows (now (clocks .entry))) (take rows (now (known .entry))) (take rows (now (values .entry)))))
         slot flags (now (writes .entry)) (now (writes .exit)) r ⌝ }
 {
     let size = families::code_size(family);
@@ -103,29 +105,24 @@ fn run_code(
     )
 }
 
-// The run of the job's script; its writes go into the lent entries.
+// The run of the job's script; its writes go into the lent entries. The arrays are lent, since a copy of them is 17 kB.
 pub(crate) fn run_job(job: Job, writes: &mut [u32]) -> RunAnswer
-    requires { ⌜ CountsFit (job .counts) ⌝ }
+    requires { ⌜ ReadyToRun job ⌝ }
     ensures { λ r. ⌜ RunsJob job (now (writes .entry)) (now (writes .exit)) r ⌝ }
 {
     let state = job.state;
     let slot = state::slot_of(state, executing_slot(state));
     let flags = state.flags;
-    let code = state.code;
-    let marks = state.marks;
-    let clocks = job.clocks;
-    let known = job.known;
-    let values = job.values;
     run_code(
         state.family,
-        code,
-        marks,
+        &state.code,
+        &state.marks,
         slot,
         flags,
         state.enable,
-        clocks,
-        known,
-        values,
+        &job.clocks,
+        &job.known,
+        &job.values,
         job.counts.rows,
         writes,
     )

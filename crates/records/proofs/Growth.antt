@@ -215,4 +215,9 @@ going-sound j g =
     let lc : length (clocksOf j) ≡ n = length-take-le n (j .clocks) (omega (arith, g .size .clocks, g .fit .rows)) in
     let lk : length (knownOf j) ≡ n = length-take-le n (j .known) (omega (arith, g .size .known, g .fit .rows)) in
     let lv : length (valuesOf j) ≡ n = length-take-le n (j .values) (omega (arith, g .size .values, g .fit .rows)) in
-    record { fit = g .fit; valid = rw (lc, lk, lv, le-leb n 1024 (g .fit .rows), eq-eqb n n refl, g .rows) }
+    let most = g .fit .rows in
+    record {
+      fit = g .fit;
+      valid = rw (lc, lk, lv, le-leb n 1024 most, eq-eqb n n refl, g .rows);
+      within = (omega (arith, g .size .clocks), omega (arith, g .size .known), omega (arith, g .size .values));
+    }

@@ -1,5 +1,5 @@
 -- Reading a job (01, "A job, and one report whole"): each record passes all its tests before the next is read.
-use Prim.Native.Nat.{ℕ, zero, suc, _+_}
+use Prim.Native.Nat.{ℕ, zero, suc, _+_, _≤_}
 use mathlib.Core.Path.{_≡_}
 use mathlib.Core.Bool.{true, cond}
 use mathlib.Core.List.{List}
@@ -39,8 +39,9 @@ readOf bytes = cond (ltb maxBytes (length bytes)) (readAt 31 0 emptyJob) (readIn
 pub record Sound (j : Job) : Type 0 where
   -- no more records of a kind than a job may have
   pub fit : CountsFit (j .counts)
-  -- its rows are a log
+  -- its rows are a log, and lie in the columns
   pub valid : validLog (logIn j) ≡ true
+  pub within : (j .counts .rows ≤ length (j .clocks)) × (j .counts .rows ≤ length (j .known)) × (j .counts .rows ≤ length (j .values))
 
 -- what reading promises of its answer
 pub record JobReads (bytes : List ℕ) (answer : JobRead) : Type 0 where

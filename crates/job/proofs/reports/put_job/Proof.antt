@@ -74,7 +74,7 @@ put-run-requires : tie.Need-put-run-requires
 put-run-requires c κs =
     let k = at-pass (c .before .before .before) in
     let r = run k in
-    (entered r .pre .sound .fit .rows, ran (job r) (entered r .pre) _ _ _ (r .run-job .ensures) lent (last k) (k .answer .given .1))
+    (entered r .pre .sound .within .1, ran (job r) (entered r .pre) _ _ _ (r .run-job .ensures) lent (last k) (k .answer .given .1))
 
 returns-2 : tie.Need-returns-2
 unfolding jobLines

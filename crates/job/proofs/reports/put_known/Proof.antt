@@ -5,7 +5,7 @@ use Rattle.job.proofs.reports.put_known.Statement.{statement}
 use Rattle.job.proofs.reports.put_known.Tie as tie
 
 slice-aggregate-put-rows : tie.Need-slice-aggregate-put-rows
-slice-aggregate-put-rows c = part-length (c .before .before .args .rows) (c .before .before .args .t3) (search needs)
+slice-aggregate-put-rows c = part-length _ _ (c .before .before .before .pre)
 
 pub put-known-spec : {M : Type 1} → statement M
-put-known-spec = tie.close (tie.spec (λ c. search needs) slice-aggregate-put-rows (λ c κs. search needs) (λ c. search needs))
+put-known-spec = tie.close (tie.spec slice-aggregate-put-rows (λ c κs. search needs) (λ c. search needs))

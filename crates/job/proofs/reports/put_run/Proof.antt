@@ -17,12 +17,13 @@ use Rattle.job.proofs.reports.put_run.Tie as tie
 returns : tie.Need-returns
 unfolding runLines
 returns c =
-    let known = c .before .before in
-    let written = known .before .before .before in
+    let known = c .before .before .before in
+    let lent = known .before .before .before in
+    let written = lent .before .before in
     let start = written .before .before .before in
     let a = start .args in
     let out = now (a .out) in
-    let j = a .job in
+    let j = a .t3 in
     let ran = start .pre .1 in
     let writes = writeLines (jobRun j .writes) in
     let lines : pairLines (now (a .entries)) ≡ writes = ap pairLines (ran .wrote) ∙ pairs-writes (jobRun j .writes) in
