@@ -37,20 +37,37 @@ in64-fits : (r : Released) → passedBy r < 2 ^ 64 → in64 r ≡ r
 in64-fits (Released.At p n) h = ap (Released.At p) (mod-eq-of-lt h)
 in64-fits (Released.End n) h = ap Released.End (mod-eq-of-lt h)
 
--- released at or before a row, with no more of a row used
-abbrev pub FoundBy : ℕ → ℕ → Released → Type 0
-FoundBy at used (Released.At p n) = (p .row ≤ at) × (p .used ≤ used)
-FoundBy at used (Released.End n) = ⊥
+-- released at or before a row
+abbrev pub FoundBy : ℕ → Released → Type 0
+FoundBy at (Released.At p n) = p .row ≤ at
+FoundBy at (Released.End n) = ⊥
 
-passing-found : (at used clocks : ℕ) (r : Released) → FoundBy at 0 r → FoundBy at used (passing clocks r)
-passing-found at used clocks (Released.At p n) f = (f .0, omega (arith, f .1))
-passing-found at used clocks (Released.End n) f = f
+passing-found : (at clocks : ℕ) (r : Released) → FoundBy at r → FoundBy at (passing clocks r)
+passing-found at clocks (Released.At p n) f = f
+passing-found at clocks (Released.End n) f = f
+
+-- where a search ends that began in a row with so much of it used: there, or at the start of a later row
+pub record EndsAt (rows row used : ℕ) (p : Place) : Type 0 where
+  pub from : row ≤ p .row
+  pub inside : p .row < rows
+  pub used-most : p .used ≤ used
+  pub row-start : row < p .row → p .used ≡ 0
+
+abbrev pub EndsFrom : ℕ → ℕ → ℕ → Released → Type 0
+EndsFrom rows row used (Released.At p n) = EndsAt rows row used p
+EndsFrom rows row used (Released.End n) = Unit {0}
+
+passing-ends : (rows row used clocks : ℕ) (r : Released) → EndsFrom rows (row + 1) 0 r → EndsFrom rows row used (passing clocks r)
+passing-ends rows row used clocks (Released.At p n) e =
+    let none : p .used ≡ 0 = omega (arith, e .used-most) in
+    record { from = omega (arith, e .from); inside = e .inside; used-most = omega arith; row-start = λ _. none }
+passing-ends rows row used clocks (Released.End n) e = tt
 
 -- ---- the search, row by row
 
 module _ (log : Log) (event value : ℕ) where
   -- the row has the reading
-  abbrev released : ℕ → Bool
+  abbrev pub released : ℕ → Bool
   released row = hasReading (getD (log .known) row 0) (getD (log .values) row 0) event value
 
   module _ (row used : ℕ) where
@@ -58,12 +75,12 @@ module _ (log : Log) (event value : ℕ) where
     unfolding searchIn
     search-end h = let z : length (log .clocks) - row ≡ 0 = omega arith in rw z
 
-    search-here : row < length (log .clocks) → released row ≡ true
+    pub search-here : row < length (log .clocks) → released row ≡ true
         → searchFrom log event value row used ≡ Released.At (record { row = row; used = used }) 0
     unfolding searchIn
     search-here h t = rw (rows-left (log .clocks) row h, t)
 
-    search-next : row < length (log .clocks) → released row ≡ false
+    pub search-next : row < length (log .clocks) → released row ≡ false
         → searchFrom log event value row used ≡ passing (getD (log .clocks) row 0 - used) (searchFrom log event value (row + 1) 0)
     unfolding searchIn
     search-next h t = rw (rows-left (log .clocks) row h, t)
@@ -100,7 +117,7 @@ module _ (log : Log) (event value : ℕ) where
   in64-start p = ap in64 (passing-none (searchFrom log event value (p .row) (p .used)))
 
   -- what the three laws keep holds of every search
-  search-elim : (P : ℕ → ℕ → Released → Type 0)
+  pub search-elim : (P : ℕ → ℕ → Released → Type 0)
       → ((row used : ℕ) → length (log .clocks) ≤ row → P row used (Released.End 0))
       → ((row used : ℕ) → row < length (log .clocks) → released row ≡ true → P row used (Released.At (record { row = row; used = used }) 0))
       → ((row used : ℕ) (r : Released) → row < length (log .clocks) → released row ≡ false → P (row + 1) 0 r
@@ -121,14 +138,21 @@ module _ (log : Log) (event value : ℕ) where
 
   -- a search goes no further than a row that has the reading
   pub search-finds : (at : ℕ) → at < length (log .clocks) → released at ≡ true → (row used : ℕ) → row ≤ at
-      → FoundBy at used (searchFrom log event value row used)
+      → FoundBy at (searchFrom log event value row used)
   search-finds at inside there =
-      search-elim (λ row used r. row ≤ at → FoundBy at used r)
+      search-elim (λ row used r. row ≤ at → FoundBy at r)
       (λ row used h l. absurd (omega arith))
-      (λ row used h t l. (l, omega arith))
+      (λ row used h t l. l)
       (λ row used r h t k l.
       let apart : row ≡ at → ⊥ = λ e. let z : _≡_ {A = ℕ} 0 1 = cc in omega arith in
-      passing-found at used (getD (log .clocks) row 0 - used) r (k (omega arith)))
+      passing-found at (getD (log .clocks) row 0 - used) r (k (omega arith)))
+
+  pub search-ends : (row used : ℕ) → EndsFrom (length (log .clocks)) row used (searchFrom log event value row used)
+  search-ends =
+      search-elim (EndsFrom (length (log .clocks)))
+      (λ row used h. tt)
+      (λ row used h t. record { from = omega arith; inside = h; used-most = omega arith; row-start = λ l. absurd (omega arith) })
+      (λ row used r h t k. passing-ends (length (log .clocks)) row used (getD (log .clocks) row 0 - used) r k)
 
   -- ---- what is promised
 
@@ -231,7 +255,7 @@ ReleasedWithin clocks (Released.End n) = Unit {0}
 
 module _ (log : Log) (valid : validLog log ≡ true) (event value : ℕ) where
   -- 64 bits hold all that is passed by
-  valid-search : (p : Place) → ewaitOf log p event value ≡ searchFrom log event value (p .row) (p .used)
+  pub valid-search : (p : Place) → ewaitOf log p event value ≡ searchFrom log event value (p .row) (p .used)
   valid-search p = ewait-search log event value p (left-fits log valid p)
 
   within-passing : (c : ℕ) (r : Released) → ReleasedWithin (log .clocks) r → ReleasedWithin (log .clocks) (passing c r)

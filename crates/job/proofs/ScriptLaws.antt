@@ -1,7 +1,7 @@
 -- Parts of a job's arrays, and the run of its script. Assumes nothing.
 use Prim.Native.Nat.{ℕ, _*_, _≤_}
 use mathlib.Core.Path.{_≡_, refl, ap, sym, _∙_}
-use mathlib.Core.List.{List, [], _∷_}
+use mathlib.Core.List.{List}
 use native.Mathlib.Omega.{arith}
 use lib.ListN.{length, take, drop, length-take}
 use lib.Seq.{length-take-le, take-at}
@@ -9,10 +9,10 @@ use borrow.Author.Tests.{le-leb}
 use Rattle.families.specs.Family.{codeSize}
 use Rattle.fetch.proofs.Places.{size-small}
 use Rattle.refusals.specs.declared.refusals.Unreplayable.{Unreplayable}
-use Rattle.run.specs.Run.{Write}
 use Rattle.run.specs.Replay.{entriesOf, writtenInto, progressOf, runAnswerOf, lentAfter}
 use Rattle.run.specs.declared.answers.Progress.{Progress}
 use Rattle.run.specs.declared.answers.RunAnswer.{RunAnswer}
+use Rattle.run.proofs.Entries.{entries-length}
 use Rattle.records.specs.Started.{executing}
 use Rattle.records.specs.declared.contents.Job.{Job}
 use Rattle.report.proofs.ScriptLaws.{script-fits, writes-few}
@@ -34,10 +34,6 @@ ram-part family bytes n h e = part-length n bytes (ram-lies family bytes n h e)
 
 ended-same : {a b : Progress} → RunAnswer.Ended a ≡ RunAnswer.Ended b → a ≡ b
 ended-same h = cc
-
-entries-length : (writes : List Write) → length (entriesOf writes) ≡ 2 * length writes
-entries-length [] = refl
-entries-length (w ∷ writes) = let h = entries-length writes in omega arith
 
 pub never-refused : {A : Type 0} {why : Unreplayable} {last : Progress} → RunAnswer.Refused why ≡ RunAnswer.Ended last → A
 never-refused h = absurd (let z : _≡_ {A = ℕ} 0 1 = cc in let w : ⊥ = omega arith in w)

@@ -7,7 +7,7 @@ use native.Mathlib.Decide.{decLt}
 use native.Mathlib.Omega.{arith}
 use lib.Dec.{leb, eqb}
 use lib.ListN.{length, getD, List·getD-eq-default}
-use borrow.Author.Tests.{leb-true, eqb-true, lt-ltb, le-ltb, eq-eqb}
+use borrow.Author.Tests.{leb-true, eqb-true, ltb-true, lt-ltb, le-ltb, eq-eqb}
 use Rattle.log.specs.Log.{Log}
 use Rattle.log.specs.Validity.{rowsInRange, validLog, validPlace}
 use Rattle.log.specs.declared.place.Place.{Place}
@@ -46,6 +46,10 @@ module _ (log : Log) (valid : validLog log ≡ true) where
   pub rows-most : length (log .clocks) ≤ 1024
   rows-most = valid-rows log valid .few
 
+  -- its columns are of one length
+  pub valid-columns : (length (log .known) ≡ length (log .clocks)) × (length (log .values) ≡ length (log .clocks))
+  valid-columns = (valid-rows log valid .known-rows, valid-rows log valid .value-rows)
+
   pub row-most : (row : ℕ) → getD (log .clocks) row 0 ≤ 2 ^ 48
   row-most row =
       elim (decLt row (length (log .clocks))) as (λ _. getD (log .clocks) row 0 ≤ 2 ^ 48) [
@@ -65,11 +69,16 @@ module _ (clocks : List ℕ) where
   valid-at-end = rw (le-ltb (length clocks) (length clocks) (omega arith), eq-eqb (length clocks) (length clocks) refl)
 
   module _ (p : Place) (v : validPlace clocks p ≡ true) where
-    none-used-at-end : length clocks ≤ p .row → (p .row ≡ length clocks) × (p .used ≡ 0)
+    pub none-used-at-end : length clocks ≤ p .row → (p .row ≡ length clocks) × (p .used ≡ 0)
     unfolding validPlace
     none-used-at-end h =
         let t = and-eq-true-iff (eqb (p .row) (length clocks)) (eqb (p .used) 0) .0 (rw (le-ltb (p .row) (length clocks) h) at v) in
         (eqb-true (p .row) (length clocks) (t .0), eqb-true (p .used) 0 (t .1))
+
+    -- a place in a row has clocks of it left
+    pub used-below : p .row < length clocks → p .used < getD clocks (p .row) 0
+    unfolding validPlace
+    used-below h = ltb-true (p .used) (getD clocks (p .row) 0) (rw (lt-ltb (p .row) (length clocks) h) at v)
 
     pub row-within : p .row ≤ length clocks
     row-within =

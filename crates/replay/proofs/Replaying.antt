@@ -2,7 +2,7 @@
 use Prim.Native.Nat.{ℕ, zero, suc, _+_, _-_, _*_, _^_, _≤_, _<_}
 use mathlib.Core.Path.{_≡_, refl, sym, ap, _∙_}
 use mathlib.Core.Bool.{true, false}
-use mathlib.Core.List.{List, [], _∷_, _++_}
+use mathlib.Core.List.{List, [], _++_}
 use native.Mathlib.Omega.{arith}
 use lib.ListN.{length, take, drop, length-append, length-drop}
 use lib.Seq.{sets, sets-eq, take-at, drop-append-add, drop-drop}
@@ -19,6 +19,7 @@ use Rattle.run.specs.Run.{Write, wroteBy, fetchedBy}
 use Rattle.run.specs.SlotRun.{Scene, SlotRun, slotBegun, tookTurn, turnFrom, nextTurn, slotRunFor}
 use Rattle.run.specs.Replay.{entriesOf, writtenInto, fullSteps, fullSlotRun, progressOf}
 use Rattle.run.specs.declared.answers.Progress.{Progress}
+use Rattle.run.proofs.Entries.{entries-length, entries-append}
 use Rattle.run.proofs.Room.{slot-room}
 use Rattle.run.proofs.SlotRuns.{slot-snoc, slot-clocks}
 use Rattle.run.proofs.Settled.{settled-more, rest-settled}
@@ -46,14 +47,6 @@ wrote-small Effect.Done = omega arith
 wrote-small (Effect.Wrote address word) = omega arith
 
 -- ---- the lent entries
-
-entries-length : (ws : List Write) → length (entriesOf ws) ≡ 2 * length ws
-entries-length [] = refl
-entries-length (w ∷ ws) = omega (arith, entries-length ws)
-
-entries-append : (before more : List Write) → entriesOf (before ++ more) ≡ entriesOf before ++ entriesOf more
-entries-append [] more = refl
-entries-append (w ∷ before) more = ap (λ (l : List ℕ). w .address ∷ w .word ∷ l) (entries-append before more)
 
 module _ (lent : List ℕ) (ws : List Write) where
   pub written-none : lent ≡ writtenInto lent []

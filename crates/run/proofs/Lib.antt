@@ -1,5 +1,10 @@
 pub mod SlotRuns
 pub mod InState
+pub mod Beside
+pub mod AddedRows
+pub mod FilledReadings
+pub mod MoreLog
+pub mod Entries
 pub mod Held
 pub mod Settled
 pub mod Room

@@ -1,11 +1,11 @@
 -- What the run of a slot promises, from its answer and its lent entries: numbers, endings, sums, and that it is the machine's. Assumes nothing.
-use Prim.Native.Nat.{ℕ}
+use Prim.Native.Nat.{ℕ, _*_}
 use mathlib.Core.Path.{_≡_, refl, sym, ap, subst, _∙_}
 use mathlib.Core.Bool.{Bool, true, false, cond, not}
-use mathlib.Core.List.{List}
+use mathlib.Core.List.{List, [], append-nil}
 use native.Mathlib.Omega.{arith}
 use lib.Dec.{leb}
-use lib.ListN.{length}
+use lib.ListN.{length, take}
 use Rattle.isa.proofs.Tests.{cond-elim}
 use Rattle.log.specs.Validity.{validLog}
 use Rattle.flags.specs.declared.flags.Flags.{Flags}
@@ -14,13 +14,15 @@ use Rattle.script.specs.Input.{scriptFits}
 use Rattle.machine.specs.declared.steps.Stepped.{Stepped}
 use Rattle.refusals.specs.declared.refusals.Unreplayable.{Unreplayable}
 use Rattle.run.specs.Run.{Run}
-use Rattle.run.specs.SlotRun.{Scene, slotRunOf}
+use Rattle.run.specs.SlotRun.{Scene, withLog, slotRunOf}
 use Rattle.run.specs.Replay.{maxEntries, fullSteps, fullSlotRun, progressOf, writtenInto, toldAnswer, runNumber, answerNumber}
 use Rattle.run.specs.Replay.{runAnswerOf, runRefusal, lentAfter, RunEnds, EndsRight, RunsSlot}
 use Rattle.run.specs.declared.answers.Progress.{Progress}
 use Rattle.run.specs.declared.answers.RunAnswer.{RunAnswer}
 use Rattle.run.proofs.SlotRuns.{slot-clocks}
 use Rattle.run.proofs.InState.{run-back, follows, full-follows, full-next-follows}
+use Rattle.run.proofs.MoreLog.{slot-begins}
+use Rattle.run.proofs.Entries.{first-entries}
 use Rattle.run.proofs.Held.{is-held}
 use Rattle.run.proofs.Settled.{stops}
 
@@ -73,6 +75,11 @@ module _ (x : Scene) (slot : Slot) (flags : Flags) where
       stops = λ m.
           let stop = stops x slot flags m in
           (stop .0, λ name s h. ap (λ (t : Stepped). t .effect) (full-next-follows x slot flags name s h valid) ∙ stop .1);
+      begins = λ log′ valid′ says lent.
+          let before = fullSlotRun x slot flags .writes in
+          let now = fullSlotRun (withLog x log′) slot flags .writes in
+          first-entries before now lent (slot-begins x slot flags valid (fullSteps (x .family)) log′ valid′ says)
+          ∙ sym (ap (take (2 * length before)) wrote ∙ first-entries before before old ([], sym (append-nil before)));
       clocked = slot-clocks x valid slot flags (fullSteps (x .family));
     }
 

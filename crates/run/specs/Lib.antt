@@ -1,3 +1,4 @@
 pub mod Run
 pub mod SlotRun
+pub mod MoreLog
 pub mod Replay

@@ -3,7 +3,7 @@ use Prim.Native.Nat.{ℕ, suc, _+_, _*_}
 use mathlib.Core.Path.{_≡_}
 use mathlib.Core.Bool.{true, cond, not}
 use mathlib.Core.List.{List, [], _∷_, _++_}
-use lib.ListN.{length, drop}
+use lib.ListN.{length, take, drop}
 use lib.Dec.{leb}
 use Rattle.families.specs.Family.{codeSize}
 use Rattle.refusals.specs.Number.{unreplayableNumber}
@@ -21,7 +21,8 @@ use Rattle.state.specs.declared.state.State.{State}
 use Rattle.turn.specs.declared.turn.Effect.{Effect}
 use Rattle.script.specs.Input.{scriptFits}
 use Rattle.run.specs.Run.{Run, Write, begun, nextStep, runFor}
-use Rattle.run.specs.SlotRun.{Scene, SlotRun, slotBegun, slotRunFor, inState, slotRunOf, Holds}
+use Rattle.run.specs.SlotRun.{Scene, withLog, SlotRun, slotBegun, slotRunFor, inState, slotRunOf, Holds}
+use Rattle.run.specs.MoreLog.{SaysMore}
 use Rattle.run.specs.declared.answers.Ending.{Ending}
 use Rattle.run.specs.declared.answers.Progress.{Progress}
 use Rattle.run.specs.declared.answers.RunAnswer.{RunAnswer}
@@ -154,6 +155,9 @@ module _ (x : Scene) (slot : Slot) (flags : Flags) where
     pub stops : last .slot .mode ≡ Mode.Running
         → (why : Unreadable)
         × ((name : SlotName) (s : State) → Holds x slot flags name s → nextStep name (x .log) (fullRun name (x .log) s) .effect ≡ Effect.Stopped why)
+    -- the entries that it filled are those that the run under a log that says more begins with, whatever it is lent (02, ticket 12)
+    pub begins : (log′ : Log) → validLog log′ ≡ true → SaysMore (x .log) log′ → (lent : List ℕ)
+        → take (2 * last .writes) (writtenInto lent (fullSlotRun (withLog x log′) slot flags .writes)) ≡ take (2 * last .writes) new
     -- the clock law: the log's total is what waits spent, what ewaits passed by and what is left
     pub clocked : leftOf (x .log .clocks) (record { row = 0; used = 0 }) ≡ last .waited + last .searched + leftOf (x .log .clocks) (last .place)
 

@@ -29,6 +29,10 @@ pub record Scene : Type 0 where
 abbrev pub sceneFor : ℕ → List ℕ → List ℕ → Bool → Log → Scene
 sceneFor family code marks enable log = record { family = family; code = code; marks = marks; enable = enable; log = log }
 
+-- the same under another log
+abbrev pub withLog : Scene → Log → Scene
+withLog x log = sceneFor (x .family) (x .code) (x .marks) (x .enable) log
+
 -- what is fetched at a place of its code RAM
 abbrev pub fetchIn : Scene → ℕ → Decoded
 fetchIn x at = fetchOf (x .family) (x .code) (x .marks) at

@@ -19,6 +19,7 @@ use Rattle.script.specs.Input.{scriptFits, rangesFit, inputFits}
 use Rattle.script.proofs.Scripts.{Script, fits-script, Auditable}
 use Rattle.run.specs.Run.{Run, begun, nextStep, runFor}
 use Rattle.run.specs.SlotRun.{SlotRun, nextTurn, slotRunOf}
+use Rattle.run.proofs.MoreLog.{rows-added, readings-filled}
 use Rattle.verdict.specs.Auditor.{verdictNumber, faultAt, knowNothing, verdictIn, auditOf, auditNumber}
 use Rattle.verdict.specs.Demand3.{Orderly, Exact, Safe, VerdictMeans, Demand3}
 use Rattle.verdict.specs.declared.verdicts.Knowledge.{Knowledge}
@@ -87,6 +88,8 @@ module _ (x : Script) (entry : ℕ) (fit : Auditable x entry) (fits-so : scriptF
         ap (λ (r : SlotRun). r .writes) (slot-follows x entry start (fit .fits) log valid m)
         ∙ same-writes x log e w (begun-agrees x entry start) (begun-agrees x entry start′) (record { place = refl; writes = refl; held = λ h. never (cc) }) m
         ∙ sym (ap (λ (r : SlotRun). r .writes) (slot-follows x entry start′ (fit .fits) log valid m));
+    rows-added = λ name s start. rows-added name s;
+    readings-filled = λ name s start. readings-filled name s;
     bounded = omega (arith, bounded w bounded-start .count, e .some, e .inside);
     reaches = λ name s start. (
       witnessLog x w,

@@ -15,7 +15,7 @@ use Rattle.log.specs.Log.{Log, logOf}
 use Rattle.log.specs.Validity.{rowsInRange, validLog}
 use Rattle.ewaits.specs.declared.ewait.Released.{Released}
 use Rattle.log.specs.declared.place.Place.{Place}
-use Rattle.ewaits.proofs.EwaitLaws.{FoundBy, search-finds}
+use Rattle.ewaits.proofs.EwaitLaws.{FoundBy, EndsFrom, search-finds, search-ends}
 use Rattle.waits.proofs.WaitLaws.{wait-in}
 use Rattle.time.specs.Time.{afterEwait, elapsedOf}
 use Rattle.actions.specs.declared.actions.Action.{Action}
@@ -193,15 +193,15 @@ record Finished (log : Log) (used : ℕ) (known values : List ℕ) (t : Elapsed)
   ahead : Ahead log (t .place) known values
 
 module _ (log : Log) (full : LongRows log) where
-  ewait-finished : (known values : List ℕ) (event value at used : ℕ) (r : Released) → FoundBy at used r
+  ewait-finished : (known values : List ℕ) (at row used : ℕ) (r : Released) → FoundBy at r → EndsFrom (length (log .clocks)) row used r
       → at < length (log .clocks) → drop (suc at) (log .known) ≡ known → drop (suc at) (log .values) ≡ values
       → Finished log (used + 0) known values (afterEwait (length (log .clocks)) (in64 r))
-  ewait-finished known values event value at used (Released.At p n) f h d e = record {
+  ewait-finished known values at row used (Released.At p n) f ends h d e = record {
     finished = refl;
-    used-most = omega (arith, f .1);
-    ahead = record { at = suc at; later = omega (arith, f .0); room = h; knows = d; reads = e };
+    used-most = omega (arith, ends .used-most);
+    ahead = record { at = suc at; later = omega (arith, f); room = h; knows = d; reads = e };
   }
-  ewait-finished known values event value at used (Released.End n) f h d e = absurd f
+  ewait-finished known values at row used (Released.End n) f ends h d e = absurd f
 
   -- any action judged fine
   finishes : (family : ℕ) (ranges : List ℕ) (action : Action) (k : Knowledge) (p : Place) (known values : List ℕ) → Fine family ranges action k
@@ -215,8 +215,9 @@ module _ (log : Log) (full : LongRows log) where
       let e = drop-first (a .at) (log .values) (value * 2 ^ event) values (a .reads) in
       let there : hasReading (getD (log .known) (a .at) 0) (getD (log .values) (a .at) 0) event value ≡ true = rw (d .0, e .0) (row-reads event value (f .event event value refl)) in
       let inside : a .at < length (log .clocks) = omega (arith, d .2, full .even) in
-      ewait-finished known values event value (a .at) (p .used) (searchFrom log event value (p .row) (p .used))
+      ewait-finished known values (a .at) (p .row) (p .used) (searchFrom log event value (p .row) (p .used))
       (search-finds log event value (a .at) inside there (p .row) (p .used) (omega (arith, a .later)))
+      (search-ends log event value (p .row) (p .used))
       inside (d .1) (e .1)
   finishes family ranges (Action.Flag change flag) k p known values f h a = record { finished = refl; used-most = omega arith; ahead = a }
   finishes family ranges (Action.Load part word) k p known values f h a = record { finished = refl; used-most = omega arith; ahead = a }

@@ -19,6 +19,7 @@ use Rattle.turn.specs.declared.turn.Effect.{Effect}
 use Rattle.script.specs.Input.{listedIn, scriptFits, inputFits}
 use Rattle.run.specs.Run.{Run, Write, begun, nextStep, runFor}
 use Rattle.run.specs.SlotRun.{sceneFor, slotRunOf, Holds}
+use Rattle.run.specs.MoreLog.{RowsAdded, ReadingsFilled}
 use Rattle.run.specs.Replay.{maxEntries, fullSlotRun, fullRun, progressOf, endingOf, toldOf, slotAtEntry, replayOf}
 use Rattle.verdict.specs.Start.{Start, MasksInType}
 use Rattle.refusals.specs.declared.refusals.Fault.{Fault}
@@ -119,6 +120,10 @@ module _ (family : ℕ) (code marks : List ℕ) (entry : ℕ) (ranges : List ℕ
     pub same-writes : (name name′ : SlotName) (s s′ : State) → Start family code marks entry name s → Start family code marks entry name′ s′
         → (log : Log) → validLog log ≡ true
         → (n : ℕ) → runFor name log n (begun s) .writes ≡ runFor name′ log n (begun s′) .writes
+    -- more log, never fewer writes (02, ticket 12): rows added at the end take back or change no write, they only add after it
+    pub rows-added : (name : SlotName) (s : State) → Start family code marks entry name s → RowsAdded name s
+    -- and readings filled in, known ones unchanged, make no wait end later, so that the writes made before are the beginning of those made now
+    pub readings-filled : (name : SlotName) (s : State) → Start family code marks entry name s → ReadingsFilled name s
     -- each instruction takes a byte of the code RAM at least
     pub bounded : count ≤ codeSize family
     -- "some log brings it to exit"

@@ -3,6 +3,7 @@ use Prim.Native.Nat.{ℕ, zero, suc, _+_, _-_, _*_, _%_, _^_, _<_, _≤_}
 use mathlib.Core.Path.{_≡_}
 use mathlib.Core.Bool.{true}
 use mathlib.Core.List.{List}
+use native.Mathlib.Decide.{decLt}
 use native.Mathlib.Nat.{add-assoc, mod-add-mod}
 use native.Mathlib.Omega.{arith}
 use lib.ListN.{length, getD}
@@ -33,6 +34,36 @@ module _ (clocks : List ℕ) (row used : ℕ) where
   pub left-sum-on : (sum : ℕ) → row < length clocks
       → (sum + leftFrom clocks row used) % 2 ^ 64 ≡ ((sum + (getD clocks row 0 - used)) % 2 ^ 64 + leftFrom clocks (row + 1) 0) % 2 ^ 64
   left-sum-on sum h = rw (left-on h, mod-add-mod, add-assoc)
+
+-- ---- a later place has no more left
+
+module _ (clocks : List ℕ) where
+  pub left-in-row : (row used used′ : ℕ) → used ≤ used′ → leftFrom clocks row used′ ≤ leftFrom clocks row used
+  left-in-row row used used′ h =
+      elim (decLt row (length clocks)) as (λ _. leftFrom clocks row used′ ≤ leftFrom clocks row used) [
+        | yes l ↦ omega (arith, left-on clocks row used l, left-on clocks row used′ l)
+        | no l ↦ omega (arith, left-end clocks row used′ (omega arith))
+      ]
+
+  rows-on : (gap row row′ used : ℕ) → row′ ≡ row + gap → leftFrom clocks row′ used ≤ leftFrom clocks row 0
+  rows-on zero row row′ used e = let here : row′ ≡ row = omega arith in rw here (left-in-row row 0 used (omega arith))
+  rows-on (suc gap) row row′ used e =
+      let later = rows-on gap (row + 1) row′ used (omega arith) in
+      elim (decLt row (length clocks)) as (λ _. leftFrom clocks row′ used ≤ leftFrom clocks row 0) [
+        | yes l ↦ omega (arith, left-on clocks row 0 l)
+        | no l ↦ omega (arith, left-end clocks row′ used (omega arith))
+      ]
+
+  -- at a row's start as much is left as at any place in it or after it
+  pub left-from : (row : ℕ) (p : Place) → row ≤ p .row → leftOf clocks p ≤ leftFrom clocks row 0
+  left-from row p h = rows-on (p .row - row) row (p .row) (p .used) (omega arith)
+
+  pub left-later : (p p′ : Place) → p .row < p′ .row → leftOf clocks p′ ≤ leftOf clocks p
+  left-later p p′ h =
+      elim (decLt (p .row) (length clocks)) as (λ _. leftOf clocks p′ ≤ leftOf clocks p) [
+        | yes l ↦ omega (arith, left-on clocks (p .row) (p .used) l, left-from (p .row + 1) p′ (omega arith))
+        | no l ↦ omega (arith, left-end clocks (p′ .row) (p′ .used) (omega arith))
+      ]
 
 -- ---- of a valid log
 

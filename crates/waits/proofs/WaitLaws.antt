@@ -32,7 +32,7 @@ module _ (clocks : List ℕ) (row used n : ℕ) where
   wait-on h l = rw (rows-left clocks row h, le-ltb n (getD clocks row 0 - used) l)
 
 -- what the three laws keep holds of every wait
-wait-elim : (clocks : List ℕ) (P : ℕ → ℕ → ℕ → Waited → Type 0)
+pub wait-elim : (clocks : List ℕ) (P : ℕ → ℕ → ℕ → Waited → Type 0)
     → ((row used n : ℕ) → length clocks ≤ row → P row used n (record { place = record { row = row; used = 0 }; cut = n }))
     → ((row used n : ℕ) → row < length clocks → n < getD clocks row 0 - used → P row used n (record { place = record { row = row; used = used + n }; cut = 0 }))
     → ((row used n : ℕ) (w : Waited) → row < length clocks → getD clocks row 0 - used ≤ n → P (row + 1) 0 (n - (getD clocks row 0 - used)) w → P row used n w)
@@ -53,7 +53,7 @@ wait-elim clocks P at-end inside onward row used n = by (length clocks - row) ro
         ]
 
 -- a wait is cut by no more than its length
-wait-within : (clocks : List ℕ) (p : Place) (n : ℕ) → waitOf clocks p n .cut ≤ n
+pub wait-within : (clocks : List ℕ) (p : Place) (n : ℕ) → waitOf clocks p n .cut ≤ n
 wait-within clocks p n =
     wait-elim clocks (λ row used n w. w .cut ≤ n)
     (λ row used n h. omega arith)

@@ -4,7 +4,9 @@ mod auditor;
 mod input;
 mod ranges;
 mod replay;
+mod start;
 
 pub use auditor::{audit, Fault, Pass};
 pub use ranges::{listed, MOST_RANGES};
 pub use replay::{replay, run, Ending, Replayed, Run, WRITE_ENTRIES};
+pub(crate) use start::start;

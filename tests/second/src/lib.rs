@@ -10,6 +10,7 @@ pub mod machine;
 mod misreadings;
 #[cfg(feature = "misreadings")]
 pub mod misreadings;
+pub mod more_log;
 pub mod probe;
 pub mod refusal;
 pub mod show;

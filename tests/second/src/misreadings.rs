@@ -26,6 +26,10 @@ pub enum Misreading {
     PokeOutsideRangeAtLast,
     /// An abort leaves an executing slot hung, one that was hung already too.
     AbortHangs,
+    /// A wait is told by the clocks it took, not by when it ended.
+    WaitMeasuredByLength,
+    /// Filling in takes the other value for a reading the row had already.
+    KnownReadingChanged,
 }
 
 /// Every misreading.
@@ -41,6 +45,8 @@ pub const ALL: &[Misreading] = &[
     Misreading::HighLevelExcluded,
     Misreading::PokeOutsideRangeAtLast,
     Misreading::AbortHangs,
+    Misreading::WaitMeasuredByLength,
+    Misreading::KnownReadingChanged,
 ];
 
 #[cfg(feature = "misreadings")]
@@ -58,6 +64,8 @@ impl Misreading {
             Misreading::HighLevelExcluded => "high level of a normal gate excluded",
             Misreading::PokeOutsideRangeAtLast => "last address outside its range",
             Misreading::AbortHangs => "abort hangs",
+            Misreading::WaitMeasuredByLength => "a wait measured by its length",
+            Misreading::KnownReadingChanged => "a known reading changed",
         }
     }
 }

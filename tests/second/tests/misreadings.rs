@@ -5,6 +5,7 @@ use second::isa::{code_size, decode, encode, CodeAddress, Instruction, MmioAddre
 use second::job::report;
 use second::machine::{host_read, host_write, State};
 use second::misreadings::{misread, Misreading, ALL};
+use second::more_log::{filled_in, keeps_writes, never_later, wait_ends, Masks, WaitEnd};
 use second::probe::{read, Calibration, Gate};
 use second::show;
 use std::thread;
@@ -103,6 +104,30 @@ const CASES: &[Case] = &[
         right: "00000000",
         wrong: "00000300",
     },
+    Case {
+        shows: Misreading::WaitMeasuredByLength,
+        answer: || format!("{:?}", ends(b"\x01\x02\x01\x7f", &[(100, 0, 0)])),
+        right: "[At(32), At(96), Never]",
+        wrong: "[At(32), At(64), Never]",
+    },
+    Case {
+        shows: Misreading::WaitMeasuredByLength,
+        answer: released_earlier,
+        right: "never later: true",
+        wrong: "never later: false",
+    },
+    Case {
+        shows: Misreading::KnownReadingChanged,
+        answer: fill_in,
+        right: "known 0000ffcc values 0000f0aa",
+        wrong: "known 0000ffcc values 0000aaaa",
+    },
+    Case {
+        shows: Misreading::KnownReadingChanged,
+        answer: filled_in_again,
+        right: "writes kept: true",
+        wrong: "writes kept: false",
+    },
 ];
 
 /// data 12345678, addr 00101600, exit.
@@ -117,12 +142,18 @@ fn code_of(family: u8, script: &[u8]) -> Vec<u8> {
     code
 }
 
+/// The rows as a log's three columns.
+fn columns(rows: &[(u64, u32, u32)]) -> (Vec<u64>, Vec<u32>, Vec<u32>) {
+    let clocks = rows.iter().map(|row| row.0).collect();
+    let known = rows.iter().map(|row| row.1).collect();
+    let values = rows.iter().map(|row| row.2).collect();
+    (clocks, known, values)
+}
+
 /// A replay from entry 0 with all uploaded, HWSQ_ENABLE 1 and other registers 0.
 fn replayed(family: u8, script: &[u8], rows: &[(u64, u32, u32)]) -> (Replayed, Vec<u32>) {
     let code = code_of(family, script);
-    let clocks: Vec<u64> = rows.iter().map(|row| row.0).collect();
-    let known: Vec<u32> = rows.iter().map(|row| row.1).collect();
-    let values: Vec<u32> = rows.iter().map(|row| row.2).collect();
+    let (clocks, known, values) = columns(rows);
     let mut writes = vec![0; WRITE_ENTRIES];
     let replayed = replay(
         family,
@@ -200,6 +231,66 @@ fn status_after_abort() -> String {
     }
     let status = host_read(&state, MmioAddress(0x1308)).unwrap();
     format!("{status:08x}")
+}
+
+/// When the waits of a script ended, from the start of the other replays.
+fn ends(script: &[u8], rows: &[(u64, u32, u32)]) -> Vec<WaitEnd> {
+    let code = code_of(2, script);
+    let (clocks, known, values) = columns(rows);
+    let ends = wait_ends(
+        2,
+        &code,
+        &vec![1; code.len()],
+        CodeAddress(0),
+        MmioAddress(0),
+        0,
+        0,
+        0,
+        true,
+        &clocks,
+        &known,
+        &values,
+    );
+    ends.unwrap()
+}
+
+/// Waits for event 0 and for event 1; the second takes the clocks that the first no longer takes.
+fn released_earlier() -> String {
+    let script = b"\x5f\x00\x01\x5f\x01\x01\x7f";
+    let before = ends(script, &[(10, 0, 0), (20, 3, 3)]);
+    let now = ends(script, &[(10, 1, 1), (20, 3, 3)]);
+    format!("never later: {}", never_later(&before, &now))
+}
+
+fn fill_in() -> String {
+    let row = Masks {
+        known: 0xff00,
+        values: 0xf0f0,
+    };
+    let from = Masks {
+        known: 0xcccc,
+        values: 0xaaaa,
+    };
+    let filled = filled_in(row, from);
+    format!("known {:08x} values {:08x}", filled.known, filled.values)
+}
+
+/// A poke behind a wait for event 1 to be 1, which the row shows and the other masks deny.
+fn filled_in_again() -> String {
+    let script = b"\x5f\x01\x01\xe0\x00\x16\x10\x00\x7f";
+    let row = Masks {
+        known: 2,
+        values: 2,
+    };
+    let filled = filled_in(row, Masks { values: 0, ..row });
+    let writes = |row: Masks| {
+        let (replayed, writes) = replayed(2, script, &[(10, row.known, row.values)]);
+        writes[..2 * replayed.run.writes as usize].to_vec()
+    };
+    format!(
+        "writes kept: {}",
+        keeps_writes(&writes(row), &writes(filled))
+    )
 }
 
 /// One test for all, since they share what is in force.

@@ -1,9 +1,9 @@
 //! Running a script against a log until it can go no further.
 
-use super::input::check_script;
+use super::start::start;
 use crate::isa::{CodeAddress, MmioAddress};
 use crate::log::{Log, Place};
-use crate::machine::{step_untested, Activity, Did, Slot, State};
+use crate::machine::{Activity, Did, Slot, State, Steps};
 use crate::Refusal;
 
 /// Entries a replay is lent for its writes, two for each.
@@ -72,20 +72,21 @@ pub fn replay(
     values: &[u32],
     writes: &mut [u32],
 ) -> Result<Replayed, Refusal> {
-    check_script(family, code, marks, entry)?;
+    let mut state = start(
+        family,
+        code,
+        marks,
+        entry,
+        addr,
+        data,
+        flags_0,
+        flags_1,
+        hwsq_enable,
+    )?;
     if writes.len() < WRITE_ENTRIES {
         return Err(Refusal::TooFewEntries);
     }
     let log = Log::new(clocks, known, values)?;
-    let mut state = State::fresh(family)?;
-    state.code[..code.len()].copy_from_slice(code);
-    state.marks[..marks.len()].copy_from_slice(marks);
-    state.set_flags(false, flags_0);
-    state.set_flags(true, flags_1);
-    state.hwsq_enable = hwsq_enable;
-    let slot = state.slot_mut(Slot::A);
-    (slot.ip, slot.addr, slot.data) = (entry, addr, data);
-    slot.activity = Activity::Fetching;
     let run = run(&mut state, Slot::A, &log, writes);
     Ok(answer(run, &state))
 }
@@ -114,16 +115,12 @@ pub fn run(state: &mut State, slot: Slot, log: &Log, writes: &mut [u32]) -> Run 
         left_clocks: 0,
     };
     let mut free = writes.chunks_exact_mut(2);
-    while state.slot(slot).activity == Activity::Fetching {
-        let step = step_untested(state, slot, log, run.place);
-        match step.did {
-            Did::Nothing | Did::Stopped(_) => break,
-            Did::UnknownOpcode | Did::Done => {}
-            Did::Wrote { address, data } => {
-                run.writes += 1;
-                if let Some(entry) = free.next() {
-                    entry.copy_from_slice(&[address.0, data]);
-                }
+    for told in Steps::new(state, slot, log) {
+        let step = told.step;
+        if let Did::Wrote { address, data } = step.did {
+            run.writes += 1;
+            if let Some(entry) = free.next() {
+                entry.copy_from_slice(&[address.0, data]);
             }
         }
         run.steps += 1;

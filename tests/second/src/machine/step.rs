@@ -38,6 +38,12 @@ pub struct Step {
     pub ewait_clocks: u64,
 }
 
+/// A step and how far it got with its wait or ewait, if it fetched one.
+pub(crate) struct Told {
+    pub step: Step,
+    pub passed: Option<Passed>,
+}
+
 /// One step, after the tests of family, log and place.
 pub fn step(
     state: &mut State,
@@ -57,17 +63,23 @@ pub fn step(
 
 /// One step without those tests; on an unknown family it does nothing.
 pub fn step_untested(state: &mut State, slot: Slot, log: &Log, place: Place) -> Step {
-    let mut step = Step {
+    step_told(state, slot, log, place).step
+}
+
+/// The same step, told with its wait.
+pub(super) fn step_told(state: &mut State, slot: Slot, log: &Log, place: Place) -> Told {
+    let step = Step {
         did: Did::Nothing,
         place,
         wait_clocks: 0,
         ewait_clocks: 0,
     };
+    let mut told = Told { step, passed: None };
     let (Ok(size), Ok(true)) = (isa::code_size(state.family), state.executing(slot)) else {
-        return step;
+        return told;
     };
     if state.slot(slot).activity != Activity::Fetching {
-        return step;
+        return told;
     }
     let ip = state.slot(slot).ip;
     match fetch(state.family, &state.code[..size], &state.marks[..size], ip) {
@@ -76,16 +88,16 @@ pub fn step_untested(state: &mut State, slot: Slot, log: &Log, place: Place) -> 
             if instruction != Instruction::Exit || in_force(Misreading::IpPastExit) {
                 state.slot_mut(slot).ip = CodeAddress(ip.0 + length as u32);
             }
-            execute(state, slot, instruction, log, &mut step);
+            execute(state, slot, instruction, log, &mut told);
         }
         Err(Refusal::UnknownOpcode) => {
             meet_unknown(state, slot);
-            step.did = Did::UnknownOpcode;
+            told.step.did = Did::UnknownOpcode;
         }
-        Err(Refusal::NeverUploaded) => step.did = Did::Stopped(Stop::NeverUploaded),
-        Err(_) => step.did = Did::Stopped(Stop::PastCode),
+        Err(Refusal::NeverUploaded) => told.step.did = Did::Stopped(Stop::NeverUploaded),
+        Err(_) => told.step.did = Did::Stopped(Stop::PastCode),
     }
-    step
+    told
 }
 
 /// IP moves past the one byte, and two families hang.
@@ -99,18 +111,19 @@ fn meet_unknown(state: &mut State, slot: Slot) {
 }
 
 /// The effect of an instruction, IP apart.
-fn execute(state: &mut State, slot: Slot, instruction: Instruction, log: &Log, step: &mut Step) {
+fn execute(state: &mut State, slot: Slot, instruction: Instruction, log: &Log, told: &mut Told) {
+    let step = &mut told.step;
     step.did = Did::Done;
     match instruction {
         Instruction::Wait { length, shift } => {
             let passed = log.wait(step.place, wait_clocks(length, shift));
             step.wait_clocks = passed.clocks;
-            settle(state, slot, passed, step);
+            settle(state, slot, passed, told);
         }
         Instruction::Ewait { event, value } => {
             let passed = log.ewait(step.place, event, value);
             step.ewait_clocks = passed.clocks;
-            settle(state, slot, passed, step);
+            settle(state, slot, passed, told);
         }
         Instruction::Exit => state.slot_mut(slot).activity = Activity::Idle,
         Instruction::Unset(flag) => state.flag_enables &= !(1 << flag),
@@ -136,8 +149,9 @@ fn execute(state: &mut State, slot: Slot, instruction: Instruction, log: &Log, s
 }
 
 /// Moves the place; a wait the log cut off keeps the slot waiting.
-fn settle(state: &mut State, slot: Slot, passed: Passed, step: &mut Step) {
-    step.place = passed.place;
+fn settle(state: &mut State, slot: Slot, passed: Passed, told: &mut Told) {
+    told.step.place = passed.place;
+    told.passed = Some(passed);
     if !passed.done {
         state.slot_mut(slot).activity = Activity::Waiting;
     }

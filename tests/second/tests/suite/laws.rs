@@ -8,7 +8,7 @@ use second::machine::{step, step_untested, Activity, Did, Slot, State, Stop};
 
 const LOW_HALF: &[u32] = &[0, 0x7fff_ffff];
 
-fn random_start(random: &mut Random) -> Start {
+pub fn random_start(random: &mut Random) -> Start {
     Start {
         addr: random.word(),
         data: random.word(),
@@ -43,7 +43,7 @@ fn clock_law_of_replays() {
 }
 
 /// The state a replay starts from.
-fn state_of(script: &Script, start: &Start) -> State {
+pub fn state_of(script: &Script, start: &Start) -> State {
     let mut state = script.start(Slot::A);
     state.set_flags(false, start.flags_0);
     state.set_flags(true, start.flags_1);
@@ -54,7 +54,7 @@ fn state_of(script: &Script, start: &Start) -> State {
 }
 
 /// A run of a number of steps: the state, place, instructions and writes after it.
-fn run_steps(mut state: State, rows: &Rows, count: usize) -> (State, Place, u32, Vec<u32>) {
+pub fn run_steps(mut state: State, rows: &Rows, count: usize) -> (State, Place, u32, Vec<u32>) {
     let (mut place, mut instructions, mut writes) = (Place::default(), 0, vec![]);
     for _ in 0..count {
         let (clocks, known, values) = (&rows.clocks, &rows.known, &rows.values);

@@ -9,6 +9,8 @@ mod job;
 mod job_refusals;
 mod laws;
 mod log;
+mod more_log;
+mod more_log_laws;
 mod probe;
 mod replay;
 mod show;

@@ -1,0 +1,136 @@
+-- With readings filled in, a wait that began no later ends no later. Assumes nothing.
+use Prim.Native.Nat.{ℕ, _+_, _≤_, _<_}
+use mathlib.Core.Path.{_≡_, refl, sym, subst, _∙_}
+use mathlib.Core.Bool.{true}
+use mathlib.Core.List.{List}
+use native.Mathlib.Decide.{decLt}
+use native.Mathlib.Omega.{arith}
+use lib.ListN.{length, getD}
+use borrow.Author.Tests.{lt-ltb, eq-eqb}
+use Rattle.log.specs.Log.{Log}
+use Rattle.log.specs.Validity.{validLog, validPlace}
+use Rattle.log.specs.declared.place.Place.{Place}
+use Rattle.log.proofs.ValidLaws.{row-within, used-below, valid-row-start}
+use Rattle.waits.specs.Left.{leftOf}
+use Rattle.waits.specs.Wait.{waitOf}
+use Rattle.waits.proofs.LeftLaws.{left-end, left-on, left-in-row, left-from, left-later, left-fits}
+use Rattle.waits.proofs.WaitLaws.{wait-within, wait-spent, cut-at-end, wait-valid}
+use Rattle.ewaits.specs.Ewait.{bitOf, hasReading, searchFrom, passedBy, OnReading, leftAfter}
+use Rattle.ewaits.specs.declared.ewait.Released.{Released}
+use Rattle.ewaits.proofs.EwaitLaws.{FoundBy, EndsAt, EndsFrom, ReleasedWithin, released, search-finds, search-ends, ewait-on-reading, ewait-spent, ewait-valid, valid-search}
+use Rattle.run.specs.SlotRun.{Scene}
+use Rattle.run.specs.MoreLog.{FilledIn}
+use Rattle.run.proofs.Beside.{ReleasedToo, Nears}
+
+module _ (clocks : List ℕ) where
+  -- two places of one log, of which the second has no less left
+  pub record NoLess (p p′ : Place) : Type 0 where
+    pub within : validPlace clocks p ≡ true
+    pub within′ : validPlace clocks p′ ≡ true
+    pub left : leftOf clocks p ≤ leftOf clocks p′
+
+  -- a place in a row lies in no earlier row than one that has as much left
+  row-order : (p p′ : Place) → NoLess p p′ → p .row < length clocks → p′ .row ≤ p .row
+  row-order p p′ near h =
+      elim (decLt (p .row) (p′ .row)) as (λ _. p′ .row ≤ p .row) [
+        | yes l ↦
+            let past = left-from clocks (p .row + 1) p′ (omega arith) in
+            absurd (omega (arith, near .left, used-below clocks p (near .within) h, left-on clocks (p .row) (p .used) h))
+        | no l ↦ omega arith
+      ]
+
+  -- a wait from there is not cut either, and leaves no less
+  module _ (p p′ : Place) (near : NoLess p p′) (n : ℕ) (done : waitOf clocks p n .cut ≡ 0) where
+    wait-done : waitOf clocks p′ n .cut ≡ 0
+    wait-done =
+        elim (decLt 0 (waitOf clocks p′ n .cut)) as (λ _. waitOf clocks p′ n .cut ≡ 0) [
+          | yes c ↦
+              let end = cut-at-end clocks p′ n (row-within clocks p′ (near .within′)) c in
+              let none = left-end clocks (waitOf clocks p′ n .place .row) (waitOf clocks p′ n .place .used) (omega (arith, end .0)) in
+              absurd (omega (arith, done, near .left, wait-within clocks p′ n, wait-spent clocks p n, wait-spent clocks p′ n))
+          | no c ↦ omega arith
+        ]
+
+    wait-left : leftOf clocks (waitOf clocks p n .place) ≤ leftOf clocks (waitOf clocks p′ n .place)
+    wait-left = omega (arith, done, wait-done, near .left, wait-spent clocks p n, wait-spent clocks p′ n)
+
+  -- of searches from there the second ends at a place with no less left, if it ends in no later row
+  search-left : (p p′ : Place) → NoLess p p′ → (q q′ : Place) → EndsAt (length clocks) (p .row) (p .used) q → EndsAt (length clocks) (p′ .row) (p′ .used) q′
+      → leftOf clocks q ≤ leftOf clocks p → q′ .row ≤ q .row → leftOf clocks q ≤ leftOf clocks q′
+  search-left p p′ near q q′ ends ends′ spent l =
+      elim (decLt (q′ .row) (q .row)) as (λ _. leftOf clocks q ≤ leftOf clocks q′) [
+        | yes h ↦ left-later clocks q′ q h
+        | no h ↦
+            let e : q .row ≡ q′ .row = omega arith in
+            elim (decLt (p′ .row) (q′ .row)) as (λ _. leftOf clocks q ≤ leftOf clocks q′) [
+              | yes m ↦ rw e (left-in-row clocks (q′ .row) (q′ .used) (q .used) (omega (arith, ends′ .row-start m)))
+              | no m ↦
+                  let begun : p′ .row ≡ q′ .row = omega (arith, row-order p p′ near (omega (arith, ends .from, ends .inside)), ends .from) in
+                  let kept : leftOf clocks p′ ≤ leftOf clocks q′ = rw begun (left-in-row clocks (q′ .row) (q′ .used) (p′ .used) (ends′ .used-most)) in
+                  omega (arith, near .left)
+            ]
+      ]
+
+module _ (x : Scene) (log′ : Log) (valid : validLog (x .log) ≡ true) (valid′ : validLog log′ ≡ true) (filled : FilledIn (x .log) log′) where
+  -- what the first log reads, the second reads
+  reads-too : (row event value : ℕ) → (event < 32) × (bitOf (getD (x .log .known) row 0) event ≡ 1) × (bitOf (getD (x .log .values) row 0) event ≡ value)
+      → released log′ event value row ≡ true
+  unfolding hasReading
+  reads-too row event value o =
+      rw (
+        lt-ltb event 32 (o .0),
+        eq-eqb (bitOf (getD (log′ .known) row 0) event) 1 (filled .known row event (o .1)),
+        eq-eqb (bitOf (getD (log′ .values) row 0) event) value (sym (filled .values event row (o .1)) ∙ o .2),
+      )
+      refl
+
+  -- the second ewait is released too, at a place with no less left
+  released-too : (p p′ : Place) → NoLess (x .log .clocks) p p′ → (event value : ℕ)
+      → ReleasedToo x log′ (NoLess (x .log .clocks)) (searchFrom (x .log) event value (p .row) (p .used)) (searchFrom log′ event value (p′ .row) (p′ .used))
+  released-too p p′ near event value =
+      by (searchFrom (x .log) event value (p .row) (p .used)) later
+      (search-ends (x .log) event value (p .row) (p .used))
+      (subst (λ (c : List ℕ). EndsFrom (length c) (p′ .row) (p′ .used) later) (filled .clocks) (search-ends log′ event value (p′ .row) (p′ .used)))
+      (rw (valid-search (x .log) valid event value p) at (ewait-on-reading (x .log) event value p))
+      (rw (valid-search (x .log) valid event value p) at (ewait-valid (x .log) valid event value p (near .within)))
+      (subst (λ (c : List ℕ). ReleasedWithin c later) (filled .clocks)
+      (rw (valid-search log′ valid′ event value p′) at (ewait-valid log′ valid′ event value p′ (rw (filled .clocks) (near .within′)))))
+      (rw (valid-search (x .log) valid event value p) at (ewait-spent (x .log) event value p (left-fits (x .log) valid p)))
+      (λ at h t l. search-finds log′ event value at (rw (filled .clocks) h) t (p′ .row) (p′ .used) l)
+    where
+      clocks : List ℕ
+      clocks = x .log .clocks
+
+      later : Released
+      later = searchFrom log′ event value (p′ .row) (p′ .used)
+
+      by : (r r′ : Released) → EndsFrom (length clocks) (p .row) (p .used) r → EndsFrom (length clocks) (p′ .row) (p′ .used) r′ → OnReading (x .log) event value r
+          → ReleasedWithin clocks r → ReleasedWithin clocks r′ → leftOf clocks p ≡ passedBy r + leftAfter clocks r
+          → ((at : ℕ) → at < length clocks → released log′ event value at ≡ true → p′ .row ≤ at → FoundBy at r′) → ReleasedToo x log′ (NoLess clocks) r r′
+      by (Released.End n) r′ ends ends′ reads v v′ spent finds = tt
+      by (Released.At q n) r′ ends ends′ reads v v′ spent finds =
+          let order = row-order clocks p p′ near (omega (arith, ends .from, ends .inside)) in
+          at r′ ends′ v′ (finds (q .row) (ends .inside) (reads-too (q .row) event value reads) (omega (arith, ends .from)))
+        where
+          at : (r′ : Released) → EndsFrom (length clocks) (p′ .row) (p′ .used) r′ → ReleasedWithin clocks r′ → FoundBy (q .row) r′
+              → ReleasedToo x log′ (NoLess clocks) (Released.At q n) r′
+          at (Released.At q′ n′) ends′ v′ found = record { within = v; within′ = v′; left = search-left clocks p p′ near q q′ ends ends′ (omega (arith, spent)) found }
+          at (Released.End n′) ends′ v′ found = absurd found
+
+  pub filled-nears : Nears x log′ (NoLess (x .log .clocks))
+  filled-nears =
+      let begins = valid-row-start (x .log) valid 0 (omega arith) in
+      record {
+        start = record { within = begins; within′ = begins; left = omega arith };
+        waits = λ p p′ near n done.
+            rw (filled .clocks) (
+              wait-done (x .log .clocks) p p′ near n done,
+              record {
+                within = wait-valid (x .log) valid p n (near .within);
+                within′ = wait-valid (x .log) valid p′ n (near .within′);
+                left = wait-left (x .log .clocks) p p′ near n done;
+              },
+            );
+        ewaits = λ p p′ near event value.
+            rw (valid-search (x .log) valid event value p, valid-search log′ valid′ event value p′) (released-too p p′ near event value);
+      }

@@ -1,0 +1,171 @@
+-- More log, never fewer writes: of a slot's run, and of any state's. Assumes nothing.
+use Prim.Native.Nat.{ℕ, zero, suc, _+_}
+use mathlib.Core.Path.{_≡_, refl, sym, ap, subst, _∙_}
+use mathlib.Core.Logic.{_⊎_, inl, inr}
+use mathlib.Core.Bool.{Bool, true, false, _&&_, true≢false}
+use mathlib.Core.List.{List, [], append-nil}
+use native.Mathlib.Omega.{arith}
+use Rattle.families.specs.Family.{knownFamily}
+use Rattle.isa.proofs.Tests.{both-left, cond-elim}
+use Rattle.log.specs.Log.{Log}
+use Rattle.log.specs.Validity.{validLog, validPlace}
+use Rattle.log.specs.declared.place.Place.{Place}
+use Rattle.log.proofs.ValidLaws.{valid-row-start}
+use Rattle.waits.specs.Left.{leftOf}
+use Rattle.flags.specs.declared.flags.Flags.{Flags}
+use Rattle.state.specs.Slot.{hasSlot, isRunning, slotOf}
+use Rattle.state.specs.declared.slots.Mode.{Mode}
+use Rattle.state.specs.declared.slots.Slot.{Slot}
+use Rattle.state.specs.declared.slots.SlotName.{SlotName}
+use Rattle.state.specs.declared.state.State.{State}
+use Rattle.state.proofs.SlotLaws.{known-slot, slot-back}
+use Rattle.machine.specs.Step.{advanceOf, stepOf}
+use Rattle.machine.specs.declared.steps.Stepped.{Stepped}
+use Rattle.run.specs.Run.{Run, noted, begun, runFor}
+use Rattle.run.specs.SlotRun.{Scene, withLog, SlotRun, slotBegun, slotRunFor, sceneOf, inState}
+use Rattle.run.specs.MoreLog.{withRows, FilledIn, SaysMore, Begins, NoLater, HeldUp, AddsOnly, KeepsUp, RowsAdded, ReadingsFilled}
+use Rattle.run.proofs.SlotRuns.{slot-clocks}
+use Rattle.run.proofs.InState.{follows}
+use Rattle.run.proofs.Beside.{RunsBeside, slots-beside, begins}
+use Rattle.run.proofs.AddedRows.{SamePlace, added-left, added-nears}
+use Rattle.run.proofs.FilledReadings.{NoLess, filled-nears}
+
+abbrev start : Place
+start = record { row = 0; used = 0 }
+
+-- ---- of a slot's run
+
+module _ (x : Scene) (slot : Slot) (flags : Flags) (valid : validLog (x .log) ≡ true) (n : ℕ) where
+  -- so many turns under a log
+  abbrev ran : Log → SlotRun
+  ran log = slotRunFor (withLog x log) n (slotBegun slot flags)
+
+  added-beside : (more : Log) → validLog (withRows (x .log) more) ≡ true
+      → RunsBeside x (withRows (x .log) more) (SamePlace (x .log)) (ran (x .log)) (ran (withRows (x .log) more))
+  added-beside more valid′ = slots-beside x (withRows (x .log) more) (SamePlace (x .log)) (added-nears x more valid valid′) slot flags n
+
+  filled-beside : (log′ : Log) → validLog log′ ≡ true → FilledIn (x .log) log′ → RunsBeside x log′ (NoLess (x .log .clocks)) (ran (x .log)) (ran log′)
+  filled-beside log′ valid′ filled = slots-beside x log′ (NoLess (x .log .clocks)) (filled-nears x log′ valid valid′ filled) slot flags n
+
+  -- whichever way the second log says more
+  pub slot-begins : (log′ : Log) → validLog log′ ≡ true → SaysMore (x .log) log′ → Begins (ran (x .log) .writes) (ran log′ .writes)
+  slot-begins log′ valid′ (inl (more, e)) =
+      subst (λ (log′ : Log). validLog log′ ≡ true → Begins (ran (x .log) .writes) (ran log′ .writes)) (sym e)
+      (λ valid′. begins x (withRows (x .log) more) (SamePlace (x .log)) (ran (x .log)) (ran (withRows (x .log) more)) (added-beside more valid′)) valid′
+  slot-begins log′ valid′ (inr filled) =
+      begins x log′ (NoLess (x .log .clocks)) (ran (x .log)) (ran log′) (filled-beside log′ valid′ filled)
+
+-- ---- of a state's run
+
+module _ (name : SlotName) (s : State) where
+  -- a family that lacks the slot takes no step of it
+  no-step : (log : Log) → hasSlot (s .family) name ≡ false → noted (begun s) (stepOf s name log start) ≡ begun s
+  unfolding stepOf advanceOf
+  no-step log lacks =
+      cond-elim Still (knownFamily (s .family))
+      (λ _. cond-elim Still (validLog log && validPlace (log .clocks) start)
+      (λ _. cond-elim Still (hasSlot (s .family) name && isRunning (slotOf s name .mode))
+      (λ runs. absurd (true≢false (sym (both-left (hasSlot (s .family) name) (isRunning (slotOf s name .mode)) runs) ∙ lacks)))
+      (λ _. refl))
+      (λ _. refl))
+      (λ _. refl)
+    where
+      Still : Stepped → Type 0
+      Still t = noted (begun s) t ≡ begun s
+
+  no-run : (log : Log) → hasSlot (s .family) name ≡ false → (n : ℕ) → runFor name log n (begun s) ≡ begun s
+  unfolding runFor
+  no-run log lacks zero = refl
+  no-run log lacks (suc n) = ap (runFor name log n) (no-step log lacks) ∙ no-run log lacks n
+
+  module _ (has : hasSlot (s .family) name ≡ true) where
+    -- what its slot does in so many turns under a log
+    abbrev slotRun : Log → ℕ → SlotRun
+    slotRun log n = slotRunFor (sceneOf s log) n (slotBegun (slotOf s name) (s .flags))
+
+    -- one that has it runs as its slot does
+    in-state : (log : Log) → validLog log ≡ true → (n : ℕ) → runFor name log n (begun s) ≡ inState s name (slotRun log n)
+    in-state log valid n =
+        follows (sceneOf s log) (slotOf s name) (s .flags) name s
+        (record {
+          known-family = known-slot (s .family) name has;
+          slot-there = has;
+          same-scene = record { family = refl; enable = refl; log = refl; fetches = λ at. refl };
+          same-slot = refl;
+          same-flags = refl;
+        })
+        valid n
+
+    -- a slot that is held up holds up its state's run
+    held-too : (r : SlotRun) → (HeldUp name (inState s name r) → ⊥) → r .slot .mode ≡ Mode.Waiting → ⊥
+    held-too r free m = free (ap (λ (slot : Slot). slot .mode) (slot-back name s (r .slot) (r .flags)) ∙ m)
+
+    module _ (log more : Log) (valid : validLog log ≡ true) (valid′ : validLog (withRows log more) ≡ true) (n : ℕ) where
+      beside : RunsBeside (sceneOf s log) (withRows log more) (SamePlace log) (slotRun log n) (slotRun (withRows log more) n)
+      beside = added-beside (sceneOf s log) (slotOf s name) (s .flags) valid n more valid′
+
+      added-in : AddsOnly name (inState s name (slotRun log n)) (inState s name (slotRun (withRows log more) n))
+      added-in = record {
+        begins = begins (sceneOf s log) (withRows log more) (SamePlace log) (slotRun log n) (slotRun (withRows log more) n) beside;
+        same = λ free. by (slotRun log n) (slotRun (withRows log more) n) beside free
+            (slot-clocks (sceneOf s log) valid (slotOf s name) (s .flags) n)
+            (slot-clocks (sceneOf s (withRows log more)) valid′ (slotOf s name) (s .flags) n);
+      }
+        where
+          by : (r r′ : SlotRun) → RunsBeside (sceneOf s log) (withRows log more) (SamePlace log) r r′ → (HeldUp name (inState s name r) → ⊥)
+              → leftOf (log .clocks) start ≡ r .waits + r .ewaits + leftOf (log .clocks) (r .place)
+              → leftOf (withRows log more .clocks) start ≡ r′ .waits + r′ .ewaits + leftOf (withRows log more .clocks) (r′ .place)
+              → inState s name r′ ≡ inState s name r
+          by r r′ (RunsBeside.level slot flags writes count waits near) free clocked clocked′ =
+              let from-start = added-left log more valid valid′ start (valid-row-start log valid 0 (omega arith)) in
+              let from-place = added-left log more valid valid′ (r .place) (near .1) in
+              let ewaits : r′ .ewaits ≡ r .ewaits = omega (arith, ap (leftOf (withRows log more .clocks)) (near .0)) in
+              rw (slot, flags, near .0, writes, count, waits, ewaits) refl
+          by r r′ (RunsBeside.behind m more) free clocked clocked′ = absurd (held-too r free m)
+
+    module _ (log log′ : Log) (valid : validLog log ≡ true) (valid′ : validLog log′ ≡ true) (filled : FilledIn log log′) (n : ℕ) where
+      filled-in : KeepsUp name (log .clocks) (inState s name (slotRun log n)) (inState s name (slotRun log′ n))
+      filled-in =
+          let beside = filled-beside (sceneOf s log) (slotOf s name) (s .flags) valid n log′ valid′ filled in
+          record {
+            begins = begins (sceneOf s log) log′ (NoLess (log .clocks)) (slotRun log n) (slotRun log′ n) beside;
+            no-later = λ free. by (slotRun log n) (slotRun log′ n) beside free
+                (slot-clocks (sceneOf s log) valid (slotOf s name) (s .flags) n)
+                (subst (λ (clocks : List ℕ). leftOf clocks start ≡ slotRun log′ n .waits + slotRun log′ n .ewaits + leftOf clocks (slotRun log′ n .place))
+                (filled .clocks) (slot-clocks (sceneOf s log′) valid′ (slotOf s name) (s .flags) n));
+          }
+        where
+          by : (r r′ : SlotRun) → RunsBeside (sceneOf s log) log′ (NoLess (log .clocks)) r r′ → (HeldUp name (inState s name r) → ⊥)
+              → leftOf (log .clocks) start ≡ r .waits + r .ewaits + leftOf (log .clocks) (r .place)
+              → leftOf (log .clocks) start ≡ r′ .waits + r′ .ewaits + leftOf (log .clocks) (r′ .place)
+              → NoLater (log .clocks) (inState s name r) (inState s name r′)
+          by r r′ (RunsBeside.level slot flags writes count waits near) free clocked clocked′ = record {
+            state = rw (slot, flags) refl;
+            writes = writes;
+            count = count;
+            waits = waits;
+            ewaits = omega (arith, waits, near .left);
+            gone = omega (arith, near .left);
+          }
+          by r r′ (RunsBeside.behind m more) free clocked clocked′ = absurd (held-too r free m)
+
+  -- ---- the two claims
+
+  pub rows-added : RowsAdded name s
+  rows-added log more valid valid′ n = by (hasSlot (s .family) name) refl
+    where
+      by : (has : Bool) → hasSlot (s .family) name ≡ has → AddsOnly name (runFor name log n (begun s)) (runFor name (withRows log more) n (begun s))
+      by true has = rw (in-state has log valid n, in-state has (withRows log more) valid′ n) (added-in has log more valid valid′ n)
+      by false lacks = rw (no-run log lacks n, no-run (withRows log more) lacks n) (record { begins = ([], refl); same = λ _. refl })
+
+  pub readings-filled : ReadingsFilled name s
+  readings-filled log log′ valid valid′ filled n = by (hasSlot (s .family) name) refl
+    where
+      by : (has : Bool) → hasSlot (s .family) name ≡ has → KeepsUp name (log .clocks) (runFor name log n (begun s)) (runFor name log′ n (begun s))
+      by true has = rw (in-state has log valid n, in-state has log′ valid′ n) (filled-in has log log′ valid valid′ filled n)
+      by false lacks =
+          rw (no-run log lacks n, no-run log′ lacks n)
+          (record {
+            begins = ([], refl);
+            no-later = λ _. record { state = refl; writes = refl; count = refl; waits = refl; ewaits = omega arith; gone = omega arith };
+          })
