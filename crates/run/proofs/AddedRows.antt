@@ -1,8 +1,8 @@
 -- Under a log with rows added, a wait that ended before ends just there, with the same clocks. Assumes nothing.
 use Prim.Native.Nat.{ℕ, zero, suc, _+_, _-_, _≤_, _<_}
-use mathlib.Core.Path.{_≡_, refl, sym, ap, _∙_}
-use mathlib.Core.Bool.{Bool, true, false}
-use mathlib.Core.List.{List, _++_}
+use mathlib.Core.Path.{_≡_, refl, ap, ap₂, _∙_}
+use mathlib.Core.Bool.{true}
+use mathlib.Core.List.{List}
 use native.Mathlib.Decide.{decLt}
 use native.Mathlib.Omega.{arith}
 use lib.ListN.{length, getD, length-append, List·getD-append}
@@ -12,7 +12,6 @@ use Rattle.log.specs.declared.place.Place.{Place}
 use Rattle.log.proofs.ValidLaws.{none-used-at-end, used-below, row-within, valid-columns, valid-row-start}
 use Rattle.waits.specs.Left.{leftFrom, leftOf}
 use Rattle.waits.specs.Wait.{waitFrom, waitOf}
-use Rattle.waits.specs.declared.wait.Waited.{Waited}
 use Rattle.waits.proofs.LeftLaws.{left-end, left-on}
 use Rattle.waits.proofs.WaitLaws.{wait-end, wait-in, wait-on, wait-elim, wait-valid}
 use Rattle.ewaits.specs.Ewait.{hasReading, passing, searchFrom, ewaitOf}
@@ -24,23 +23,24 @@ use Rattle.run.proofs.Beside.{ReleasedToo, Nears}
 
 module _ (log more : Log) (valid : validLog log ≡ true) (valid′ : validLog (withRows log more) ≡ true) where
   abbrev clocks′ : List ℕ
-  clocks′ = log .clocks ++ more .clocks
+  clocks′ = withRows log more .clocks
 
-  -- no fewer rows
-  longer : length (log .clocks) ≤ length clocks′
-  longer = omega (arith, length-append (log .clocks) (more .clocks))
-
-  -- those that there were are as they were
+  -- the rows that there were are as they were
   same-clocks : (row : ℕ) → row < length (log .clocks) → getD clocks′ row 0 ≡ getD (log .clocks) row 0
   same-clocks row h = List·getD-append (log .clocks) (more .clocks) 0 row h
 
+  same-known : (row : ℕ) → row < length (log .clocks) → getD (withRows log more .known) row 0 ≡ getD (log .known) row 0
+  same-known row h = List·getD-append (log .known) (more .known) 0 row (omega (arith, valid-columns log valid .0))
+
+  same-values : (row : ℕ) → row < length (log .clocks) → getD (withRows log more .values) row 0 ≡ getD (log .values) row 0
+  same-values row h = List·getD-append (log .values) (more .values) 0 row (omega (arith, valid-columns log valid .1))
+
   same-reading : (event value row : ℕ) → row < length (log .clocks) → released (withRows log more) event value row ≡ released log event value row
-  same-reading event value row h =
-      let columns = valid-columns log valid in
-      rw (
-        List·getD-append (log .known) (more .known) 0 row (omega (arith, columns .0)),
-        List·getD-append (log .values) (more .values) 0 row (omega (arith, columns .1)),
-      )
+  same-reading event value row h = ap₂ (λ (known values : ℕ). hasReading known values event value) (same-known row h) (same-values row h)
+
+  -- and there are no fewer
+  longer : length (log .clocks) ≤ length clocks′
+  longer = omega (arith, length-append (log .clocks) (more .clocks))
 
   -- ---- a wait
 

@@ -1,6 +1,6 @@
 -- A slot's runs under two logs, turn by turn: alike but for their places until a wait holds up the first. Assumes nothing.
 use Prim.Native.Nat.{ℕ, zero, suc, _+_}
-use mathlib.Core.Path.{_≡_, refl, sym, ap, ap₂, _∙_}
+use mathlib.Core.Path.{_≡_, refl, sym, ap₂, _∙_}
 use mathlib.Core.Bool.{Bool, true, false, cond}
 use mathlib.Core.List.{List, [], _++_, append-nil, append-assoc}
 use native.Mathlib.Omega.{arith}
@@ -25,7 +25,7 @@ use Rattle.turn.specs.Turn.{modeAfter, effectOf, performOf, sameTurn, turnOf}
 use Rattle.turn.specs.declared.turn.Effect.{Effect}
 use Rattle.turn.specs.declared.turn.Turn.{Turn}
 use Rattle.run.specs.Run.{Write, wroteBy, fetchedBy}
-use Rattle.run.specs.SlotRun.{Scene, withLog, fetchIn, SlotRun, slotBegun, tookTurn, turnFrom, nextTurn, slotRunFor}
+use Rattle.run.specs.SlotRun.{Scene, withLog, fetchIn, SlotRun, slotBegun, tookTurn, nextTurn, slotRunFor}
 use Rattle.run.specs.MoreLog.{Begins}
 
 -- a scene and another log; how a place in the one log stands to one in the other

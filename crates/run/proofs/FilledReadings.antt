@@ -17,7 +17,8 @@ use Rattle.waits.proofs.LeftLaws.{left-end, left-on, left-in-row, left-from, le
 use Rattle.waits.proofs.WaitLaws.{wait-within, wait-spent, cut-at-end, wait-valid}
 use Rattle.ewaits.specs.Ewait.{bitOf, hasReading, searchFrom, passedBy, OnReading, leftAfter}
 use Rattle.ewaits.specs.declared.ewait.Released.{Released}
-use Rattle.ewaits.proofs.EwaitLaws.{FoundBy, EndsAt, EndsFrom, ReleasedWithin, released, search-finds, search-ends, ewait-on-reading, ewait-spent, ewait-valid, valid-search}
+use Rattle.ewaits.proofs.EwaitLaws.{FoundBy, EndsAt, EndsFrom, ReleasedWithin, released, search-finds, search-ends}
+use Rattle.ewaits.proofs.EwaitLaws.{ewait-on-reading, ewait-spent, ewait-valid, valid-search}
 use Rattle.run.specs.SlotRun.{Scene}
 use Rattle.run.specs.MoreLog.{FilledIn}
 use Rattle.run.proofs.Beside.{ReleasedToo, Nears}
@@ -84,53 +85,73 @@ module _ (x : Scene) (log′ : Log) (valid : validLog (x .log) ≡ true) (valid�
       )
       refl
 
-  -- the second ewait is released too, at a place with no less left
-  released-too : (p p′ : Place) → NoLess (x .log .clocks) p p′ → (event value : ℕ)
-      → ReleasedToo x log′ (NoLess (x .log .clocks)) (searchFrom (x .log) event value (p .row) (p .used)) (searchFrom log′ event value (p′ .row) (p′ .used))
-  released-too p p′ near event value =
-      by (searchFrom (x .log) event value (p .row) (p .used)) later
-      (search-ends (x .log) event value (p .row) (p .used))
-      (subst (λ (c : List ℕ). EndsFrom (length c) (p′ .row) (p′ .used) later) (filled .clocks) (search-ends log′ event value (p′ .row) (p′ .used)))
-      (rw (valid-search (x .log) valid event value p) at (ewait-on-reading (x .log) event value p))
-      (rw (valid-search (x .log) valid event value p) at (ewait-valid (x .log) valid event value p (near .within)))
-      (subst (λ (c : List ℕ). ReleasedWithin c later) (filled .clocks)
-      (rw (valid-search log′ valid′ event value p′) at (ewait-valid log′ valid′ event value p′ (rw (filled .clocks) (near .within′)))))
-      (rw (valid-search (x .log) valid event value p) at (ewait-spent (x .log) event value p (left-fits (x .log) valid p)))
-      (λ at h t l. search-finds log′ event value at (rw (filled .clocks) h) t (p′ .row) (p′ .used) l)
-    where
-      clocks : List ℕ
-      clocks = x .log .clocks
+  abbrev clocks : List ℕ
+  clocks = x .log .clocks
 
-      later : Released
-      later = searchFrom log′ event value (p′ .row) (p′ .used)
+  module _ (p p′ : Place) (near : NoLess clocks p p′) (event value : ℕ) where
+    -- what is known of an ewait's search under the first log, and of the one under the second
+    record Searched (r : Released) : Type 0 where
+      ends : EndsFrom (length clocks) (p .row) (p .used) r
+      reads : OnReading (x .log) event value r
+      valid-place : ReleasedWithin clocks r
+      spent : leftOf clocks p ≡ passedBy r + leftAfter clocks r
 
-      by : (r r′ : Released) → EndsFrom (length clocks) (p .row) (p .used) r → EndsFrom (length clocks) (p′ .row) (p′ .used) r′ → OnReading (x .log) event value r
-          → ReleasedWithin clocks r → ReleasedWithin clocks r′ → leftOf clocks p ≡ passedBy r + leftAfter clocks r
-          → ((at : ℕ) → at < length clocks → released log′ event value at ≡ true → p′ .row ≤ at → FoundBy at r′) → ReleasedToo x log′ (NoLess clocks) r r′
-      by (Released.End n) r′ ends ends′ reads v v′ spent finds = tt
-      by (Released.At q n) r′ ends ends′ reads v v′ spent finds =
-          let order = row-order clocks p p′ near (omega (arith, ends .from, ends .inside)) in
-          at r′ ends′ v′ (finds (q .row) (ends .inside) (reads-too (q .row) event value reads) (omega (arith, ends .from)))
-        where
-          at : (r′ : Released) → EndsFrom (length clocks) (p′ .row) (p′ .used) r′ → ReleasedWithin clocks r′ → FoundBy (q .row) r′
-              → ReleasedToo x log′ (NoLess clocks) (Released.At q n) r′
-          at (Released.At q′ n′) ends′ v′ found = record { within = v; within′ = v′; left = search-left clocks p p′ near q q′ ends ends′ (omega (arith, spent)) found }
-          at (Released.End n′) ends′ v′ found = absurd found
+    record SearchedToo (r : Released) : Type 0 where
+      ends : EndsFrom (length clocks) (p′ .row) (p′ .used) r
+      valid-place : ReleasedWithin clocks r
+      finds : (at : ℕ) → at < length clocks → released log′ event value at ≡ true → p′ .row ≤ at → FoundBy at r
 
-  pub filled-nears : Nears x log′ (NoLess (x .log .clocks))
+    searched : Searched (searchFrom (x .log) event value (p .row) (p .used))
+    searched =
+        let is = valid-search (x .log) valid event value p in
+        record {
+          ends = search-ends (x .log) event value (p .row) (p .used);
+          reads = rw is at (ewait-on-reading (x .log) event value p);
+          valid-place = rw is at (ewait-valid (x .log) valid event value p (near .within));
+          spent = rw is at (ewait-spent (x .log) event value p (left-fits (x .log) valid p));
+        }
+
+    searched-too : SearchedToo (searchFrom log′ event value (p′ .row) (p′ .used))
+    searched-too =
+        let r = searchFrom log′ event value (p′ .row) (p′ .used) in
+        let found = rw (valid-search log′ valid′ event value p′) at (ewait-valid log′ valid′ event value p′ (rw (filled .clocks) (near .within′))) in
+        record {
+          ends = subst (λ (c : List ℕ). EndsFrom (length c) (p′ .row) (p′ .used) r) (filled .clocks) (search-ends log′ event value (p′ .row) (p′ .used));
+          valid-place = subst (λ (c : List ℕ). ReleasedWithin c r) (filled .clocks) found;
+          finds = λ at h t l. search-finds log′ event value at (rw (filled .clocks) h) t (p′ .row) (p′ .used) l;
+        }
+
+    -- the second is released too, at a place with no less left
+    released-too : (r r′ : Released) → Searched r → SearchedToo r′ → ReleasedToo x log′ (NoLess clocks) r r′
+    released-too (Released.End n) r′ one two = tt
+    released-too (Released.At q n) r′ one two =
+        let order = row-order clocks p p′ near (omega (arith, one .ends .from, one .ends .inside)) in
+        by r′ two (two .finds (q .row) (one .ends .inside) (reads-too (q .row) event value (one .reads)) (omega (arith, one .ends .from)))
+      where
+        by : (r′ : Released) → SearchedToo r′ → FoundBy (q .row) r′ → ReleasedToo x log′ (NoLess clocks) (Released.At q n) r′
+        by (Released.At q′ n′) two found = record {
+          within = one .valid-place;
+          within′ = two .valid-place;
+          left = search-left clocks p p′ near q q′ (one .ends) (two .ends) (omega (arith, one .spent)) found;
+        }
+        by (Released.End n′) two found = absurd found
+
+  pub filled-nears : Nears x log′ (NoLess clocks)
   filled-nears =
       let begins = valid-row-start (x .log) valid 0 (omega arith) in
       record {
         start = record { within = begins; within′ = begins; left = omega arith };
         waits = λ p p′ near n done.
             rw (filled .clocks) (
-              wait-done (x .log .clocks) p p′ near n done,
+              wait-done clocks p p′ near n done,
               record {
                 within = wait-valid (x .log) valid p n (near .within);
                 within′ = wait-valid (x .log) valid p′ n (near .within′);
-                left = wait-left (x .log .clocks) p p′ near n done;
+                left = wait-left clocks p p′ near n done;
               },
             );
         ewaits = λ p p′ near event value.
-            rw (valid-search (x .log) valid event value p, valid-search log′ valid′ event value p′) (released-too p p′ near event value);
+            rw (valid-search (x .log) valid event value p, valid-search log′ valid′ event value p′)
+            (released-too p p′ near event value (searchFrom (x .log) event value (p .row) (p .used)) (searchFrom log′ event value (p′ .row) (p′ .used))
+            (searched p p′ near event value) (searched-too p p′ near event value));
       }

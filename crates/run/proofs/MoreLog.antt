@@ -1,9 +1,9 @@
 -- More log, never fewer writes: of a slot's run, and of any state's. Assumes nothing.
 use Prim.Native.Nat.{ℕ, zero, suc, _+_}
 use mathlib.Core.Path.{_≡_, refl, sym, ap, subst, _∙_}
-use mathlib.Core.Logic.{_⊎_, inl, inr}
+use mathlib.Core.Logic.{inl, inr}
 use mathlib.Core.Bool.{Bool, true, false, _&&_, true≢false}
-use mathlib.Core.List.{List, [], append-nil}
+use mathlib.Core.List.{List, []}
 use native.Mathlib.Omega.{arith}
 use Rattle.families.specs.Family.{knownFamily}
 use Rattle.isa.proofs.Tests.{both-left, cond-elim}
@@ -21,7 +21,7 @@ use Rattle.state.specs.declared.state.State.{State}
 use Rattle.state.proofs.SlotLaws.{known-slot, slot-back}
 use Rattle.machine.specs.Step.{advanceOf, stepOf}
 use Rattle.machine.specs.declared.steps.Stepped.{Stepped}
-use Rattle.run.specs.Run.{Run, noted, begun, runFor}
+use Rattle.run.specs.Run.{noted, begun, runFor}
 use Rattle.run.specs.SlotRun.{Scene, withLog, SlotRun, slotBegun, slotRunFor, sceneOf, inState}
 use Rattle.run.specs.MoreLog.{withRows, FilledIn, SaysMore, Begins, NoLater, HeldUp, AddsOnly, KeepsUp, RowsAdded, ReadingsFilled}
 use Rattle.run.proofs.SlotRuns.{slot-clocks}
