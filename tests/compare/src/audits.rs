@@ -29,15 +29,10 @@ pub struct Case {
 /// Both verdicts, the proved one first.
 fn verdicts(case: &Case) -> (Verdict, Verdict) {
     let (code, marks) = case.ram.slices();
-    let script = hwsq::Script {
-        family: case.ram.family,
-        code: &code,
-        marks: &marks,
-        entry: case.ram.entry as usize,
-    };
+    let proved = hwsq::audit(case.ram.lent(&code, &marks), &case.ranges);
     let entry = CodeAddress(case.ram.entry);
     let second = second::audit::audit(case.ram.family, &code, &marks, entry, &case.ranges);
-    (hwsq::audit(script, &case.ranges), mirror::verdict(second))
+    (proved, mirror::verdict(second))
 }
 
 fn differs(case: &Case) -> bool {

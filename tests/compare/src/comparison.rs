@@ -40,8 +40,8 @@ impl Visitor for Summary {
             );
             return;
         }
-        // Fewer jobs than the gate has can't be held to hundreds of each outcome.
-        let full = self.amounts.jobs >= FULL.jobs;
+        // Fewer jobs or pairs than the gate has can't be held to hundreds of each outcome.
+        let full = self.amounts.jobs >= FULL.jobs && self.amounts.pairs >= FULL.pairs;
         for fault in run.tally.outcomes.faults(part.groups(), full) {
             self.faults += 1;
             println!("OUTCOME in {}: {fault}", part.name());

@@ -9,6 +9,16 @@ const EXIT: u8 = 0x7f;
 const UNKNOWN: [u8; 10] = [0x41, 0x43, 0x5e, 0x60, 0x7e, 0xe1, 0xe3, 0xfe, 0xff, 0x50];
 const LONG: [u8; 5] = [0x40, 0x42, 0x5f, 0xe0, 0xe2];
 
+/// What a script is made of.
+#[derive(Clone, Copy, PartialEq, Eq)]
+enum Blend {
+    Even,
+    /// Nothing but pokes, in the first range.
+    Dense,
+    /// Waits, and pokes among them.
+    Waiting,
+}
+
 /// A script under construction, with what an auditor would know of it.
 struct Composer<'a> {
     random: &'a mut Random,
@@ -17,14 +27,24 @@ struct Composer<'a> {
     addr: Option<u32>,
     data: bool,
     paused: bool,
-    /// Nothing but pokes, in the first range.
-    dense: bool,
+    blend: Blend,
     pieces: Vec<Vec<u8>>,
 }
 
 /// A script for a family: sound two times in three, as far as the ranges let it be.
 pub fn script(random: &mut Random, family: u8, ranges: &[Range]) -> Script {
     let dense = has_pokes(family) && random.chance(2);
+    let blend = if dense { Blend::Dense } else { Blend::Even };
+    composed(random, family, ranges, blend)
+}
+
+/// Such a script with many waits between its pokes.
+pub fn waiting_script(random: &mut Random, family: u8, ranges: &[Range]) -> Script {
+    composed(random, family, ranges, Blend::Waiting)
+}
+
+fn composed(random: &mut Random, family: u8, ranges: &[Range], blend: Blend) -> Script {
+    let dense = blend == Blend::Dense;
     let count = if dense {
         random.below(size_of(family) / 3)
     } else {
@@ -41,7 +61,7 @@ pub fn script(random: &mut Random, family: u8, ranges: &[Range]) -> Script {
         addr: None,
         data: false,
         paused: false,
-        dense,
+        blend,
         pieces: Vec::new(),
     };
     for _ in 0..count {
@@ -85,11 +105,16 @@ fn place(random: &mut Random, family: u8, length: usize) -> usize {
 impl Composer<'_> {
     /// Adds one instruction that this family has.
     fn instruction(&mut self) {
+        match self.blend {
+            Blend::Even => self.any(),
+            Blend::Dense => self.poke(),
+            Blend::Waiting => self.waiting(),
+        }
+    }
+
+    fn any(&mut self) {
         if !has_pokes(self.family) {
             return self.short();
-        }
-        if self.dense {
-            return self.poke();
         }
         match self.random.below(10) {
             0..=3 => self.short(),
@@ -100,17 +125,20 @@ impl Composer<'_> {
         }
     }
 
+    /// A wait every other time, and pokes among them.
+    fn waiting(&mut self) {
+        match self.random.below(10) {
+            0 | 1 => self.wait(),
+            2..=4 if has_pokes(self.family) => self.ewait(),
+            5..=7 if has_pokes(self.family) => self.poke(),
+            _ => self.any(),
+        }
+    }
+
     /// A wait, or a flag opcode, often of the flag that pauses memory.
     fn short(&mut self) {
         if self.random.chance(50) {
-            let wait = self.random.byte() & 0x3f;
-            // Long waits end most logs at once, so that short ones are more frequent.
-            let wait = if self.random.chance(70) {
-                wait & 7
-            } else {
-                wait
-            };
-            return self.pieces.push(vec![wait]);
+            return self.wait();
         }
         let flag = match self.random.below(4) {
             0 => 16,
@@ -121,6 +149,17 @@ impl Composer<'_> {
             self.paused = opcode == 0xa0;
         }
         self.pieces.push(vec![opcode | flag]);
+    }
+
+    fn wait(&mut self) {
+        let wait = self.random.byte() & 0x3f;
+        // Long waits end most logs at once, so that short ones are more frequent.
+        let wait = if self.random.chance(70) {
+            wait & 7
+        } else {
+            wait
+        };
+        self.pieces.push(vec![wait]);
     }
 
     /// An ewait that some row can release, for one of a few events as a rule.
@@ -153,8 +192,9 @@ impl Composer<'_> {
         let same_high = self.addr.is_some_and(|addr| addr >> 16 == address >> 16);
         self.addr = Some(address);
         let [low, high, ..] = address.to_le_bytes();
+        let dense = self.blend == Blend::Dense;
         self.pieces
-            .push(if same_high && (self.dense || self.random.chance(80)) {
+            .push(if same_high && (dense || self.random.chance(80)) {
                 vec![0x40, low, high]
             } else {
                 with_word(0xe0, address)

@@ -93,7 +93,7 @@ fn clocks(random: &mut Random, waits: &[u64]) -> u64 {
 }
 
 /// A mask of none, few, many or all events.
-fn mask(random: &mut Random) -> u32 {
+pub fn mask(random: &mut Random) -> u32 {
     match random.below(6) {
         0 => 0,
         1 => u32::MAX,
@@ -140,11 +140,7 @@ impl Log {
     }
 
     pub fn columns(&self) -> Columns {
-        let mut columns = Columns {
-            clocks: self.rows.iter().map(|row| row.clocks).collect(),
-            known: self.rows.iter().map(|row| row.known).collect(),
-            values: self.rows.iter().map(|row| row.values).collect(),
-        };
+        let mut columns = Columns::of(&self.rows);
         match self.longer {
             Longer::None => {}
             Longer::Clocks => columns.clocks.push(1),
@@ -152,17 +148,6 @@ impl Log {
             Longer::Values => columns.values.push(0),
         }
         columns
-    }
-
-    /// The log as docs/VECTORS.md writes it.
-    pub fn told(&self) -> String {
-        let columns = self.columns();
-        format!(
-            "log {} known {} values {}",
-            show::numbers(&columns.clocks),
-            show::words(&columns.known),
-            show::words(&columns.values)
-        )
     }
 }
 
@@ -180,6 +165,25 @@ impl Row {
 }
 
 impl Columns {
+    /// Columns of one length.
+    pub fn of(rows: &[Row]) -> Columns {
+        Columns {
+            clocks: rows.iter().map(|row| row.clocks).collect(),
+            known: rows.iter().map(|row| row.known).collect(),
+            values: rows.iter().map(|row| row.values).collect(),
+        }
+    }
+
+    /// The log as docs/VECTORS.md writes it.
+    pub fn told(&self) -> String {
+        format!(
+            "log {} known {} values {}",
+            show::numbers(&self.clocks),
+            show::words(&self.known),
+            show::words(&self.values)
+        )
+    }
+
     pub fn lent(&self) -> hwsq::Log<'_> {
         hwsq::Log {
             clocks: &self.clocks,

@@ -8,6 +8,7 @@ pub struct Amounts {
     pub scripts: u64,
     pub audits: u64,
     pub replays: u64,
+    pub pairs: u64,
     pub readings: u64,
     pub programs: u64,
     /// Of the writer's units, one in so many.
@@ -21,13 +22,14 @@ pub const FULL: Amounts = Amounts {
     scripts: 40_000,
     audits: 100_000,
     replays: 100_000,
+    pairs: 60_000,
     readings: 400_000,
     programs: 1_000,
     writer_stride: 1,
 };
 
 pub const USAGE: &str = "usage: compare [--seed N] [--jobs N] [--scripts N] [--audits N] \
-[--replays N] [--readings N] [--programs N]";
+[--replays N] [--pairs N] [--readings N] [--programs N]";
 
 /// Reads pairs of a name and a number over what stands there.
 pub fn parse(words: impl Iterator<Item = String>, mut amounts: Amounts) -> Option<Amounts> {
@@ -40,6 +42,7 @@ pub fn parse(words: impl Iterator<Item = String>, mut amounts: Amounts) -> Optio
             "--scripts" => &mut amounts.scripts,
             "--audits" => &mut amounts.audits,
             "--replays" => &mut amounts.replays,
+            "--pairs" => &mut amounts.pairs,
             "--readings" => &mut amounts.readings,
             "--programs" => &mut amounts.programs,
             _ => return None,

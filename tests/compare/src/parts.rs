@@ -5,6 +5,7 @@ use crate::codec::{Reading, Writing};
 use crate::gates::Gates;
 use crate::jobs::Jobs;
 use crate::options::Amounts;
+use crate::pairs::Pairs;
 use crate::part::Part;
 use crate::replays::Replays;
 use crate::steps::Steps;
@@ -36,6 +37,10 @@ pub fn each(amounts: &Amounts, visitor: &mut impl Visitor) {
     visitor.visit(&Replays {
         seed,
         replays: amounts.replays,
+    });
+    visitor.visit(&Pairs {
+        seed,
+        pairs: amounts.pairs,
     });
     visitor.visit(&Gates {
         seed,

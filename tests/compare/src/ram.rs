@@ -48,6 +48,15 @@ impl Ram {
     pub fn random(random: &mut Random, ranges: &[Range]) -> Ram {
         let family = 1 + random.below(4) as u8;
         let script = compose::script(random, family, ranges);
+        let mut ram = Ram::fit(random, family, script);
+        if random.chance(25) {
+            ram.spoil(random);
+        }
+        ram
+    }
+
+    /// A fit one with a script in it, of which at times a byte was never uploaded.
+    pub fn fit(random: &mut Random, family: u8, script: Script) -> Ram {
         let mut ram = Ram {
             family,
             entry: script.at as u32,
@@ -61,9 +70,6 @@ impl Ram {
         if random.chance(10) {
             let hole = ram.script.at + random.below(ram.script.bytes().len());
             ram.marks.push((hole, 0));
-        }
-        if random.chance(25) {
-            ram.spoil(random);
         }
         ram
     }
@@ -102,6 +108,16 @@ impl Ram {
             }
         }
         (code, marks)
+    }
+
+    /// The slices as the proved calls take them.
+    pub fn lent<'a>(&self, code: &'a [u8], marks: &'a [u8]) -> hwsq::Script<'a> {
+        hwsq::Script {
+            family: self.family,
+            code,
+            marks,
+            entry: self.entry as usize,
+        }
     }
 
     /// Makes a case smaller that holds one of these.

@@ -1,5 +1,6 @@
 //! Replay, called with any registers, lent entries and log.
 
+use crate::launch::Launch;
 use crate::log::{Log, Row};
 use crate::outcomes::Group;
 use crate::part::{Part, Tally};
@@ -9,7 +10,7 @@ use crate::ranges;
 use crate::show;
 use crate::shrink::Shrinker;
 use compare::mirror;
-use hwsq::{Replayed, Start, ENTRIES};
+use hwsq::{Replayed, ENTRIES};
 use second::isa::{CodeAddress, MmioAddress};
 
 const SALT: u64 = 6;
@@ -22,11 +23,10 @@ pub struct Replays {
     pub replays: u64,
 }
 
-/// A script, the registers it starts with, a log and how many entries are lent.
+/// A script with its registers, a log and how many entries are lent.
 #[derive(Clone)]
 pub struct Case {
-    ram: Ram,
-    start: Start,
+    launch: Launch,
     log: Log,
     lent: usize,
 }
@@ -36,23 +36,18 @@ type Answer = (Replayed, Vec<u32>);
 
 /// Both answers, the proved one first.
 fn answers(case: &Case) -> (Answer, Answer) {
-    let (code, marks) = case.ram.slices();
+    let Launch { ram, start } = &case.launch;
+    let (code, marks) = ram.slices();
     let columns = case.log.columns();
-    let script = hwsq::Script {
-        family: case.ram.family,
-        code: &code,
-        marks: &marks,
-        entry: case.ram.entry as usize,
-    };
+    let script = ram.lent(&code, &marks);
     let mut entries = vec![LENT; case.lent];
-    let proved = hwsq::replay(script, case.start, columns.lent(), &mut entries);
+    let proved = hwsq::replay(script, *start, columns.lent(), &mut entries);
     let mut others = vec![LENT; case.lent];
-    let start = case.start;
     let second = second::audit::replay(
-        case.ram.family,
+        ram.family,
         &code,
         &marks,
-        CodeAddress(case.ram.entry),
+        CodeAddress(ram.entry),
         MmioAddress(start.addr),
         start.data,
         start.flags_0,
@@ -91,19 +86,8 @@ fn made(random: &mut Random) -> Case {
         1 => 400,
         _ => ENTRIES,
     };
-    let start = Start {
-        addr: random.edgy(),
-        data: random.edgy(),
-        flags_0: random.edgy(),
-        flags_1: random.edgy(),
-        enable: random.chance(85),
-    };
-    Case {
-        ram,
-        start,
-        log,
-        lent,
-    }
+    let launch = Launch::random(random, ram);
+    Case { launch, log, lent }
 }
 
 impl Part for Replays {
@@ -134,29 +118,15 @@ impl Part for Replays {
 
     fn shrunk(&self, mut case: Case) -> Case {
         let shrinker = Shrinker::start();
-        Ram::shrink(&shrinker, &mut case, |case| &mut case.ram, differs);
+        Launch::shrink(&shrinker, &mut case, |case| &mut case.launch, differs);
         shrinker.drop_items(&mut case, |case| &mut case.log.rows, differs);
         shrinker.simplify(&mut case, |case| &mut case.log.rows, Row::simpler, differs);
-        shrinker.settle(&mut case, |case| &mut case.start.addr, &[0], differs);
-        shrinker.settle(&mut case, |case| &mut case.start.data, &[0], differs);
-        shrinker.settle(&mut case, |case| &mut case.start.flags_0, &[0], differs);
-        shrinker.settle(&mut case, |case| &mut case.start.flags_1, &[0], differs);
         case
     }
 
     fn input(&self, case: &Case) -> String {
-        let Start {
-            addr,
-            data,
-            flags_0,
-            flags_1,
-            enable,
-        } = case.start;
-        let (log, ram, lent) = (case.log.told(), case.ram.told(), case.lent);
-        let enable = second::show::yes_or_no(enable);
-        let registers =
-            format!("addr {addr:08x} data {data:08x} flags {flags_0:08x} {flags_1:08x}");
-        format!("{log}\nreplay {ram} {registers} enable {enable} lent {lent}")
+        let (log, replay) = (case.log.columns().told(), case.launch.told(case.lent));
+        format!("{log}\n{replay}")
     }
 
     fn answers(&self, case: &Case) -> String {

@@ -25,7 +25,8 @@ pub fn numbers(numbers: &[u64]) -> String {
     list(numbers.iter().map(u64::to_string))
 }
 
-fn list(items: impl Iterator<Item = String>) -> String {
+/// Items with a space between; `-` for none.
+pub fn list(items: impl Iterator<Item = String>) -> String {
     let items: Vec<String> = items.collect();
     if items.is_empty() {
         return "-".to_string();

@@ -12,6 +12,7 @@ pub const FEW: Amounts = Amounts {
     scripts: 3_000,
     audits: 8_000,
     replays: 8_000,
+    pairs: 4_000,
     readings: 20_000,
     programs: 0,
     writer_stride: 8,

@@ -143,7 +143,7 @@ impl Session {
 
     /// The session as lines of docs/VECTORS.md.
     pub fn told(&self) -> String {
-        let mut lines = vec![format!("fresh {}", self.family), self.log.told()];
+        let mut lines = vec![format!("fresh {}", self.family), self.log.columns().told()];
         lines.extend(self.actions.iter().map(Action::told));
         lines.join("\n")
     }
