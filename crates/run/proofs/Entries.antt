@@ -18,9 +18,10 @@ entries-append [] more = refl
 entries-append (w ∷ before) more = ap (λ (l : List ℕ). w .address ∷ w .word ∷ l) (entries-append before more)
 
 -- the entries of writes that are the beginning of others are the first of theirs, whatever was lent
-pub first-entries : (before now : List Write) (lent : List ℕ) → Begins before now → take (2 * length before) (writtenInto lent now) ≡ entriesOf before
-first-entries before now lent (more, e) =
-    let rest = drop (2 * length now) lent in
-    ap (λ (l : List ℕ). take (2 * length before) (l ++ rest)) (ap entriesOf e ∙ entries-append before more)
-    ∙ ap (take (2 * length before)) (append-assoc (entriesOf before) (entriesOf more) rest)
-    ∙ take-at (entriesOf before) (entriesOf more ++ rest) (2 * length before) (entries-length before)
+pub first-entries : (writes writes′ : List Write) (lent : List ℕ) → Begins writes writes′ → take (2 * length writes) (writtenInto lent writes′) ≡ entriesOf writes
+first-entries writes writes′ lent (more, e) =
+    let n = 2 * length writes in
+    let rest = drop (2 * length writes′) lent in
+    ap (λ (l : List ℕ). take n (l ++ rest)) (ap entriesOf e ∙ entries-append writes more)
+    ∙ ap (take n) (append-assoc (entriesOf writes) (entriesOf more) rest)
+    ∙ take-at (entriesOf writes) (entriesOf more ++ rest) n (entries-length writes)

@@ -4,6 +4,7 @@ pub mod Beside
 pub mod AddedRows
 pub mod FilledReadings
 pub mod MoreLog
+pub mod Pairs
 pub mod Entries
 pub mod Held
 pub mod Settled

@@ -133,6 +133,7 @@ module _ (name : SlotName) (s : State) where
                 (slot-clocks (sceneOf s log) valid (slotOf s name) (s .flags) n)
                 (subst (λ (clocks : List ℕ). leftOf clocks start ≡ slotRun log′ n .waits + slotRun log′ n .ewaits + leftOf clocks (slotRun log′ n .place))
                 (filled .clocks) (slot-clocks (sceneOf s log′) valid′ (slotOf s name) (s .flags) n));
+            gone-by = omega (arith, slot-clocks (sceneOf s log) valid (slotOf s name) (s .flags) n);
           }
         where
           by : (r r′ : SlotRun) → RunsBeside (sceneOf s log) log′ (NoLess (log .clocks)) r r′ → (HeldUp name (inState s name r) → ⊥)
@@ -168,4 +169,5 @@ module _ (name : SlotName) (s : State) where
           (record {
             begins = ([], refl);
             no-later = λ _. record { state = refl; writes = refl; count = refl; waits = refl; ewaits = omega arith; gone = omega arith };
+            gone-by = omega arith;
           })

@@ -22,6 +22,7 @@ use Rattle.run.specs.declared.answers.RunAnswer.{RunAnswer}
 use Rattle.run.proofs.SlotRuns.{slot-clocks}
 use Rattle.run.proofs.InState.{run-back, follows, full-follows, full-next-follows}
 use Rattle.run.proofs.MoreLog.{slot-begins}
+use Rattle.run.proofs.Pairs.{pairs}
 use Rattle.run.proofs.Entries.{first-entries}
 use Rattle.run.proofs.Held.{is-held}
 use Rattle.run.proofs.Settled.{stops}
@@ -76,10 +77,10 @@ module _ (x : Scene) (slot : Slot) (flags : Flags) where
           let stop = stops x slot flags m in
           (stop .0, λ name s h. ap (λ (t : Stepped). t .effect) (full-next-follows x slot flags name s h valid) ∙ stop .1);
       begins = λ log′ valid′ says lent.
-          let before = fullSlotRun x slot flags .writes in
-          let now = fullSlotRun (withLog x log′) slot flags .writes in
-          first-entries before now lent (slot-begins x slot flags valid (fullSteps (x .family)) log′ valid′ says)
-          ∙ sym (ap (take (2 * length before)) wrote ∙ first-entries before before old ([], sym (append-nil before)));
+          let writes = fullSlotRun x slot flags .writes in
+          let writes′ = fullSlotRun (withLog x log′) slot flags .writes in
+          first-entries writes writes′ lent (slot-begins x slot flags valid (fullSteps (x .family)) log′ valid′ says)
+          ∙ sym (ap (take (2 * length writes)) wrote ∙ first-entries writes writes old ([], sym (append-nil writes)));
       clocked = slot-clocks x valid slot flags (fullSteps (x .family));
     }
 
@@ -96,4 +97,5 @@ runs-slot {x} {slot} {flags} {old} {new} e l = record {
   ends = subst (EndsRight x slot flags old new) (sym e) (answer-ends x slot flags old new (length old) (l ∙ ap (lentAfter x slot flags old) e));
   follows = follows x slot flags;
   held = is-held x slot flags;
+  pairs = pairs;
 }

@@ -1,4 +1,5 @@
 pub mod Run
 pub mod SlotRun
 pub mod MoreLog
+pub mod Pairs
 pub mod Replay

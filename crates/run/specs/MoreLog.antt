@@ -1,5 +1,5 @@
 -- More log, never fewer writes (02, ticket 12): two runs of one slot from one state and of equally many steps, the second under a log that says more.
-use Prim.Native.Nat.{ℕ, _-_, _≤_}
+use Prim.Native.Nat.{ℕ, _+_, _-_, _≤_}
 use mathlib.Core.Path.{_≡_}
 use mathlib.Core.Logic.{_⊎_}
 use mathlib.Core.Bool.{true}
@@ -36,7 +36,7 @@ SaysMore log log′ = ((more : Log) × (log′ ≡ withRows log more)) ⊎ (Fill
 
 -- "the writes made before are the beginning of the writes made now": none is taken back or changed, others only come after them
 abbrev pub Begins : List Write → List Write → Type 0
-Begins before now = (more : List Write) × (now ≡ before ++ more)
+Begins writes writes′ = (more : List Write) × (writes′ ≡ writes ++ more)
 
 -- the clocks gone by since the log's start: what it had there less what is left
 abbrev pub goneAt : List ℕ → Place → ℕ
@@ -68,6 +68,8 @@ module _ (name : SlotName) where
     -- "never makes a wait end later": after whichever step a wait has ended, it has ended in the second run too, and no later; an unfinished one would
     -- have been later than any
     pub no-later : (HeldUp r → ⊥) → NoLater clocks r r′
+    -- clocks gone by are those that waits spent and ewaits passed by
+    pub gone-by : goneAt clocks (r .place) ≡ r .waits + r .ewaits
 
   -- ---- the two sentences, of any state
 

@@ -23,6 +23,7 @@ use Rattle.script.specs.Input.{scriptFits}
 use Rattle.run.specs.Run.{Run, Write, begun, nextStep, runFor}
 use Rattle.run.specs.SlotRun.{Scene, withLog, SlotRun, slotBegun, slotRunFor, inState, slotRunOf, Holds}
 use Rattle.run.specs.MoreLog.{SaysMore}
+use Rattle.run.specs.Pairs.{Pairs}
 use Rattle.run.specs.declared.answers.Ending.{Ending}
 use Rattle.run.specs.declared.answers.Progress.{Progress}
 use Rattle.run.specs.declared.answers.RunAnswer.{RunAnswer}
@@ -174,6 +175,8 @@ module _ (x : Scene) (slot : Slot) (flags : Flags) where
     pub ends : EndsRight old new answer
     pub follows : FollowsSteps
     pub held : IsHeld
+    -- more log on worked scripts: of the definitions, and so of every run
+    pub pairs : Pairs
 
   -- ---- replay: what is told of such a run
 

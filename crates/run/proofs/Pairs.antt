@@ -1,0 +1,51 @@
+-- The worked pairs of runs, by computation. Assumes nothing.
+use Prim.Native.Nat.{ℕ, zero, suc, _^_}
+use mathlib.Core.Path.{_≡_, refl}
+use native.Mathlib.Nat.{zero-div}
+use native.Mathlib.Omega.{arith}
+use lib.ListN.{getD}
+use Rattle.families.specs.Family.{byFamily}
+use Rattle.isa.specs.Opcode.{opcodeAt}
+use Rattle.isa.specs.Reader.{decodeOf}
+use Rattle.isa.specs.Wait.{waitClocks}
+use Rattle.fetch.specs.Fetch.{allMarked, fetchOf}
+use Rattle.waits.specs.Left.{leftIn}
+use Rattle.ewaits.specs.Ewait.{bitOf, hasReading, searchIn}
+use Rattle.log.specs.Validity.{validLog, validPlace}
+use Rattle.turn.specs.Turn.{performOf}
+use Rattle.machine.specs.Step.{advanceOf, stepOf}
+use Rattle.run.specs.Run.{runFor}
+use Rattle.run.specs.MoreLog.{FilledIn}
+use Rattle.run.specs.Pairs.{unread, eventFilled, Pairs}
+
+-- no bit of 0 is set
+no-bit : (event : ℕ) → bitOf 0 event ≡ 1 → ⊥
+no-bit event e = let zero-bit : bitOf 0 event ≡ 0 = rw (zero-div (2 ^ event)) refl in omega arith
+
+-- only the first row is another
+filled : FilledIn unread eventFilled
+filled = record { clocks = refl; known = known; values = λ event row. values row event }
+  where
+    known : (row event : ℕ) → bitOf (getD (unread .known) row 0) event ≡ 1 → bitOf (getD (eventFilled .known) row 0) event ≡ 1
+    known zero event e = absurd (no-bit event e)
+    known (suc zero) event e = e
+    known (suc (suc row)) event e = e
+
+    values : (row event : ℕ) → bitOf (getD (unread .known) row 0) event ≡ 1
+        → bitOf (getD (unread .values) row 0) event ≡ bitOf (getD (eventFilled .values) row 0) event
+    values zero event e = absurd (no-bit event e)
+    values (suc zero) event e = refl
+    values (suc (suc row)) event e = refl
+
+pub pairs : Pairs
+unfolding runFor stepOf advanceOf validLog validPlace byFamily fetchOf allMarked decodeOf opcodeAt waitClocks performOf searchIn hasReading leftIn
+pairs = record {
+  held-up = refl;
+  one-write = refl;
+  two-writes = refl;
+  goes-on = refl;
+  filled = filled;
+  free = λ h. let z : _≡_ {A = ℕ} 0 1 = cc in omega arith;
+  first = (refl, refl);
+  second = (refl, refl);
+}

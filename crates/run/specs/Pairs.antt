@@ -1,0 +1,81 @@
+-- Worked pairs of runs (02, ticket 12), by computation: a log, one that says more, and what both runs came to.
+use Prim.Native.Nat.{ℕ, _-_}
+use mathlib.Core.Path.{_≡_}
+use mathlib.Core.Bool.{true, false}
+use mathlib.Core.List.{List, [], _∷_, _++_}
+use lib.ListN.{length, replicate}
+use Rattle.log.specs.Log.{Log, logOf}
+use Rattle.state.specs.declared.slots.Mode.{Mode}
+use Rattle.state.specs.declared.slots.Slot.{Slot}
+use Rattle.state.specs.declared.slots.SlotName.{SlotName}
+use Rattle.state.specs.declared.state.State.{State}
+use Rattle.run.specs.Run.{Run, Write, begun, runFor}
+use Rattle.run.specs.MoreLog.{withRows, FilledIn, goneAt, HeldUp}
+
+-- at place 0, ADDR and DATA 0
+abbrev pub slotIn : Mode → Slot
+slotIn mode = record { mode = mode; ip = record { 0 = 0 }; addr = record { 0 = 0 }; «data» = 0 }
+
+-- family 2, these bytes from place 0 on and all uploaded, HWSQ_ENABLE 1, slot A running from there
+abbrev pub holding : List ℕ → State
+holding bytes = record {
+  family = 2;
+  code = bytes ++ replicate (128 - length bytes) 0;
+  marks = replicate 128 1;
+  flags = record { values = 0; enables = 0 };
+  enable = true;
+  «override_mode» = false;
+  entries = 0;
+  «entries_high» = 0;
+  a = slotIn Mode.Running;
+  b = slotIn Mode.Idle;
+}
+
+-- so many steps of slot A under a log
+abbrev pub after : List ℕ → Log → ℕ → Run
+after bytes log n = runFor SlotName.A log n (begun (holding bytes))
+
+-- a write of 1
+abbrev pub one : ℕ → Write
+one address = record { address = address; word = 1 }
+
+-- ---- a row added
+
+-- data 1, addr 00101600, ewait 0 1, addrlo 1604, exit
+abbrev pub oneEwait : List ℕ
+oneEwait = 0xe2 ∷ 0x01 ∷ 0x00 ∷ 0x00 ∷ 0x00 ∷ 0xe0 ∷ 0x00 ∷ 0x16 ∷ 0x10 ∷ 0x00 ∷ 0x5f ∷ 0x00 ∷ 0x01 ∷ 0x40 ∷ 0x04 ∷ 0x16 ∷ 0x7f ∷ []
+
+-- 32 clocks without a reading, and then 32 in which event 0 is 1
+abbrev pub cutOff : Log
+cutOff = logOf (32 ∷ []) (0 ∷ []) (0 ∷ [])
+
+abbrev pub rowAdded : Log
+rowAdded = withRows cutOff (logOf (32 ∷ []) (1 ∷ []) (1 ∷ []))
+
+-- ---- a reading filled in
+
+-- data 1, ewait 1 1, ewait 2 1, addr 00101600, exit
+abbrev pub twoEwaits : List ℕ
+twoEwaits = 0xe2 ∷ 0x01 ∷ 0x00 ∷ 0x00 ∷ 0x00 ∷ 0x5f ∷ 0x01 ∷ 0x01 ∷ 0x5f ∷ 0x02 ∷ 0x01 ∷ 0xe0 ∷ 0x00 ∷ 0x16 ∷ 0x10 ∷ 0x00 ∷ 0x7f ∷ []
+
+-- 64 clocks without a reading, and then 32 in which events 1 and 2 are 1
+abbrev pub unread : Log
+unread = logOf (64 ∷ 32 ∷ []) (0 ∷ 6 ∷ []) (0 ∷ 6 ∷ [])
+
+-- the same with event 1 known as 1 in the first row; the value bit of event 0, which has no reading, means nothing
+abbrev pub eventFilled : Log
+eventFilled = logOf (64 ∷ 32 ∷ []) (2 ∷ 6 ∷ []) (3 ∷ 6 ∷ [])
+
+pub record Pairs : Type 0 where
+  -- held up in the ewait after one write; with the row the ewait ends at its start, and the other write comes after
+  pub held-up : HeldUp SlotName.A (after oneEwait cutOff 5)
+  pub one-write : after oneEwait cutOff 5 .writes ≡ one 0x101600 ∷ []
+  pub two-writes : after oneEwait rowAdded 5 .writes ≡ one 0x101600 ∷ one 0x101604 ∷ []
+  pub goes-on : goneAt (rowAdded .clocks) (after oneEwait rowAdded 5 .place) ≡ 32
+  -- the filled log is one, and neither run is held up
+  pub filled : FilledIn unread eventFilled
+  pub free : HeldUp SlotName.A (after twoEwaits unread 5) → ⊥
+  -- the first ewait ends after 64 clocks, and with the reading at once
+  pub first : (goneAt (unread .clocks) (after twoEwaits unread 2 .place) ≡ 64) × (goneAt (eventFilled .clocks) (after twoEwaits eventFilled 2 .place) ≡ 0)
+  -- so the second takes none before and 64 now, and ends where it did
+  pub second : (goneAt (unread .clocks) (after twoEwaits unread 3 .place) ≡ 64) × (goneAt (eventFilled .clocks) (after twoEwaits eventFilled 3 .place) ≡ 64)
