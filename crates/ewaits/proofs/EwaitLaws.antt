@@ -67,20 +67,20 @@ passing-ends rows row used clocks (Released.End n) e = tt
 
 module _ (log : Log) (event value : ℕ) where
   -- the row has the reading
-  abbrev pub released : ℕ → Bool
-  released row = hasReading (getD (log .known) row 0) (getD (log .values) row 0) event value
+  abbrev pub readsAt : ℕ → Bool
+  readsAt row = hasReading (getD (log .known) row 0) (getD (log .values) row 0) event value
 
   module _ (row used : ℕ) where
     search-end : length (log .clocks) ≤ row → searchFrom log event value row used ≡ Released.End 0
     unfolding searchIn
     search-end h = let z : length (log .clocks) - row ≡ 0 = omega arith in rw z
 
-    pub search-here : row < length (log .clocks) → released row ≡ true
+    pub search-here : row < length (log .clocks) → readsAt row ≡ true
         → searchFrom log event value row used ≡ Released.At (record { row = row; used = used }) 0
     unfolding searchIn
     search-here h t = rw (rows-left (log .clocks) row h, t)
 
-    pub search-next : row < length (log .clocks) → released row ≡ false
+    pub search-next : row < length (log .clocks) → readsAt row ≡ false
         → searchFrom log event value row used ≡ passing (getD (log .clocks) row 0 - used) (searchFrom log event value (row + 1) 0)
     unfolding searchIn
     search-next h t = rw (rows-left (log .clocks) row h, t)
@@ -91,11 +91,11 @@ module _ (log : Log) (event value : ℕ) where
       passing-end : length (log .clocks) ≤ row → passing passed (searchFrom log event value row used) ≡ Released.End passed
       passing-end h = rw (search-end h, add-zero)
 
-      passing-here : row < length (log .clocks) → released row ≡ true
+      passing-here : row < length (log .clocks) → readsAt row ≡ true
           → passing passed (searchFrom log event value row used) ≡ Released.At (record { row = row; used = used }) passed
       passing-here h t = rw (search-here h t, add-zero)
 
-      passing-next : row < length (log .clocks) → released row ≡ false
+      passing-next : row < length (log .clocks) → readsAt row ≡ false
           → passing passed (searchFrom log event value row used) ≡ passing (passed + (getD (log .clocks) row 0 - used)) (searchFrom log event value (row + 1) 0)
       passing-next h t = rw (search-next h t) (passing-more passed (getD (log .clocks) row 0 - used) (searchFrom log event value (row + 1) 0))
 
@@ -103,11 +103,11 @@ module _ (log : Log) (event value : ℕ) where
       pub in64-end : passed < 2 ^ 64 → length (log .clocks) ≤ row → in64 (passing passed (searchFrom log event value row used)) ≡ Released.End passed
       in64-end l h = rw (passing-end h) (in64-fits (Released.End passed) l)
 
-      pub in64-here : passed < 2 ^ 64 → row < length (log .clocks) → released row ≡ true
+      pub in64-here : passed < 2 ^ 64 → row < length (log .clocks) → readsAt row ≡ true
           → in64 (passing passed (searchFrom log event value row used)) ≡ Released.At (record { row = row; used = used }) passed
       in64-here l h t = rw (passing-here h t) (in64-fits (Released.At (record { row = row; used = used }) passed) l)
 
-      pub in64-next : row < length (log .clocks) → released row ≡ false
+      pub in64-next : row < length (log .clocks) → readsAt row ≡ false
           → in64 (passing passed (searchFrom log event value row used))
           ≡ in64 (passing ((passed + (getD (log .clocks) row 0 - used)) % 2 ^ 64) (searchFrom log event value (row + 1) 0))
       in64-next h t =
@@ -119,25 +119,25 @@ module _ (log : Log) (event value : ℕ) where
   -- what the three laws keep holds of every search
   pub search-elim : (P : ℕ → ℕ → Released → Type 0)
       → ((row used : ℕ) → length (log .clocks) ≤ row → P row used (Released.End 0))
-      → ((row used : ℕ) → row < length (log .clocks) → released row ≡ true → P row used (Released.At (record { row = row; used = used }) 0))
-      → ((row used : ℕ) (r : Released) → row < length (log .clocks) → released row ≡ false → P (row + 1) 0 r
+      → ((row used : ℕ) → row < length (log .clocks) → readsAt row ≡ true → P row used (Released.At (record { row = row; used = used }) 0))
+      → ((row used : ℕ) (r : Released) → row < length (log .clocks) → readsAt row ≡ false → P (row + 1) 0 r
       → P row used (passing (getD (log .clocks) row 0 - used) r))
       → (row used : ℕ) → P row used (searchFrom log event value row used)
   search-elim P at-end here onward row used = by (length (log .clocks) - row) row used refl
     where
       by : (f row used : ℕ) → f ≡ length (log .clocks) - row → P row used (searchFrom log event value row used)
       by zero row used e = let h : length (log .clocks) ≤ row = omega arith in rw (search-end row used h) (at-end row used h)
-      by (suc f) row used e = at (released row) refl (by f (row + 1) 0 (omega arith))
+      by (suc f) row used e = at (readsAt row) refl (by f (row + 1) 0 (omega arith))
         where
           h : row < length (log .clocks)
           h = omega arith
 
-          at : (b : Bool) → released row ≡ b → P (row + 1) 0 (searchFrom log event value (row + 1) 0) → P row used (searchFrom log event value row used)
+          at : (b : Bool) → readsAt row ≡ b → P (row + 1) 0 (searchFrom log event value (row + 1) 0) → P row used (searchFrom log event value row used)
           at true t later = rw (search-here row used h t) (here row used h t)
           at false t later = rw (search-next row used h t) (onward row used (searchFrom log event value (row + 1) 0) h t later)
 
   -- a search goes no further than a row that has the reading
-  pub search-finds : (at : ℕ) → at < length (log .clocks) → released at ≡ true → (row used : ℕ) → row ≤ at
+  pub search-finds : (at : ℕ) → at < length (log .clocks) → readsAt at ≡ true → (row used : ℕ) → row ≤ at
       → FoundBy at (searchFrom log event value row used)
   search-finds at inside there =
       search-elim (λ row used r. row ≤ at → FoundBy at r)
@@ -156,7 +156,7 @@ module _ (log : Log) (event value : ℕ) where
 
   -- ---- what is promised
 
-  reading : (row : ℕ) → released row ≡ true → (event < 32) × (bitOf (getD (log .known) row 0) event ≡ 1) × (bitOf (getD (log .values) row 0) event ≡ value)
+  reading : (row : ℕ) → readsAt row ≡ true → (event < 32) × (bitOf (getD (log .known) row 0) event ≡ 1) × (bitOf (getD (log .values) row 0) event ≡ value)
   unfolding hasReading
   reading row t =
       let one = and-eq-true-iff (ltb event 32) _ .0 t in

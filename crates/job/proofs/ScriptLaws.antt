@@ -3,8 +3,8 @@ use Prim.Native.Nat.{ℕ, _*_, _≤_}
 use mathlib.Core.Path.{_≡_, ap, sym, _∙_}
 use mathlib.Core.List.{List}
 use native.Mathlib.Omega.{arith}
-use lib.ListN.{length, take, drop, length-take}
-use lib.Seq.{length-take-le, take-at}
+use lib.ListN.{length, take, length-take}
+use lib.Seq.{length-take-le}
 use borrow.Author.Tests.{le-leb}
 use Rattle.families.specs.Family.{codeSize}
 use Rattle.fetch.proofs.Places.{size-small}
@@ -12,7 +12,7 @@ use Rattle.refusals.specs.declared.refusals.Unreplayable.{Unreplayable}
 use Rattle.run.specs.Replay.{entriesOf, writtenInto, progressOf, runAnswerOf, lentAfter}
 use Rattle.run.specs.declared.answers.Progress.{Progress}
 use Rattle.run.specs.declared.answers.RunAnswer.{RunAnswer}
-use Rattle.run.proofs.Entries.{entries-length}
+use Rattle.run.proofs.Entries.{entries-length, written-entries}
 use Rattle.records.specs.Started.{executing}
 use Rattle.records.specs.declared.contents.Job.{Job}
 use Rattle.report.proofs.ScriptLaws.{script-fits, writes-few}
@@ -50,9 +50,7 @@ module _ (j : Job) (ready : ReadyToRun j) where
     written = runs .lent ∙ ap (lentAfter (jobScene j) (executing (j .state)) (j .state .flags) old) run-ends
 
     entries-are : take (2 * length (jobRun j .writes)) new ≡ entriesOf (jobRun j .writes)
-    entries-are =
-        let n = 2 * length (jobRun j .writes) in
-        ap (take n) written ∙ take-at (entriesOf (jobRun j .writes)) (drop n old) n (entries-length (jobRun j .writes))
+    entries-are = ap (take (2 * length (jobRun j .writes))) written ∙ written-entries old (jobRun j .writes)
 
     module _ (last : Progress) (e : answer ≡ RunAnswer.Ended last) where
       last-is : last ≡ progressOf (jobRun j)

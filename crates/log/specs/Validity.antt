@@ -26,6 +26,10 @@ validLog log =
     let rows = length (log .clocks) in
     leb rows maxRows && (eqb (length (log .known)) rows && (eqb (length (log .values)) rows && rowsInRange (log .clocks)))
 
+-- where a run begins: row 0, 0 used
+abbrev pub logStart : Place
+logStart = record { row = 0; used = 0 }
+
 -- in a row that has clocks left, or at the log's end: the row count, none used
 unfoldable pub validPlace : List ℕ → Place → Bool
 validPlace clocks p =

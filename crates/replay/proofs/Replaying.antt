@@ -4,10 +4,10 @@ use mathlib.Core.Path.{_≡_, refl, sym, ap, _∙_}
 use mathlib.Core.Bool.{true, false}
 use mathlib.Core.List.{List, [], _++_}
 use native.Mathlib.Omega.{arith}
-use lib.ListN.{length, take, drop, length-append, length-drop}
-use lib.Seq.{sets, sets-eq, take-at, drop-append-add, drop-drop}
+use lib.ListN.{length, drop, length-append, length-drop}
+use lib.Seq.{sets, sets-eq, drop-append-add, drop-drop}
 use Rattle.fetch.specs.Fetch.{fetchOf}
-use Rattle.log.specs.Validity.{validLog}
+use Rattle.log.specs.Validity.{validLog, logStart}
 use Rattle.waits.proofs.LeftLaws.{left-most}
 use Rattle.state.specs.Slot.{isRunning}
 use Rattle.turn.specs.Turn.{turnOf}
@@ -19,7 +19,7 @@ use Rattle.run.specs.Run.{Write, wroteBy, fetchedBy}
 use Rattle.run.specs.SlotRun.{Scene, SlotRun, slotBegun, tookTurn, turnFrom, nextTurn, slotRunFor}
 use Rattle.run.specs.Replay.{entriesOf, writtenInto, fullSteps, fullSlotRun, progressOf}
 use Rattle.run.specs.declared.answers.Progress.{Progress}
-use Rattle.run.proofs.Entries.{entries-length, entries-append}
+use Rattle.run.proofs.Entries.{entries-length, entries-append, written-entries}
 use Rattle.run.proofs.Room.{slot-room}
 use Rattle.run.proofs.SlotRuns.{slot-snoc, slot-clocks}
 use Rattle.run.proofs.Settled.{settled-more, rest-settled}
@@ -64,7 +64,7 @@ module _ (lent : List ℕ) (ws : List Write) where
       let e = entries-length ws in
       let sum : 2 * length (ws ++ more) ≡ n + m = omega (arith, entries-length more, length-append ws more) in
       let room : n + m ≤ length (writtenInto lent ws) = omega (arith, written-length (omega (arith, length-append ws more))) in
-      let front : take n (writtenInto lent ws) ≡ entriesOf ws = take-at (entriesOf ws) (drop n lent) n e in
+      let front = written-entries lent ws in
       let back : drop (n + m) (writtenInto lent ws) ≡ drop (2 * length (ws ++ more)) lent =
       ap (λ (k : ℕ). drop (k + m) (writtenInto lent ws)) (sym e) ∙ drop-append-add (entriesOf ws) (drop n lent) m ∙ drop-drop m n lent ∙ ap (λ (k : ℕ). drop k lent) (sym sum) in
       sets-eq (entriesOf more) (writtenInto lent ws) n room ∙ rw (front, back, entries-append ws more)
@@ -109,7 +109,7 @@ module _ (x : Scene) (slot : Slot) (flags : Flags) where
     sums-small : (n : ℕ) → (run n .waits < 2 ^ 64) × (run n .ewaits < 2 ^ 64)
     sums-small n =
         let c = slot-clocks x valid slot flags n in
-        let m = left-most (x .log) valid (record { row = 0; used = 0 }) in
+        let m = left-most (x .log) valid logStart in
         (omega arith, omega arith)
 
     -- one turn of the loop, which holds the run's progress

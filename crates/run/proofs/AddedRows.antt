@@ -16,10 +16,10 @@ use Rattle.waits.proofs.LeftLaws.{left-end, left-on}
 use Rattle.waits.proofs.WaitLaws.{wait-end, wait-in, wait-on, wait-elim, wait-valid}
 use Rattle.ewaits.specs.Ewait.{hasReading, passing, searchFrom, ewaitOf}
 use Rattle.ewaits.specs.declared.ewait.Released.{Released}
-use Rattle.ewaits.proofs.EwaitLaws.{ReleasedWithin, released, search-here, search-next, search-elim, ewait-valid, valid-search}
+use Rattle.ewaits.proofs.EwaitLaws.{ReleasedWithin, readsAt, search-here, search-next, search-elim, ewait-valid, valid-search}
 use Rattle.run.specs.SlotRun.{Scene}
 use Rattle.run.specs.MoreLog.{withRows}
-use Rattle.run.proofs.Beside.{ReleasedToo, Nears}
+use Rattle.run.proofs.Beside.{ReleasedToo, LogsBeside}
 
 module _ (log more : Log) (valid : validLog log ≡ true) (valid′ : validLog (withRows log more) ≡ true) where
   abbrev clocks′ : List ℕ
@@ -35,7 +35,7 @@ module _ (log more : Log) (valid : validLog log ≡ true) (valid′ : validLog (
   same-values : (row : ℕ) → row < length (log .clocks) → getD (withRows log more .values) row 0 ≡ getD (log .values) row 0
   same-values row h = List·getD-append (log .values) (more .values) 0 row (omega (arith, valid-columns log valid .1))
 
-  same-reading : (event value row : ℕ) → row < length (log .clocks) → released (withRows log more) event value row ≡ released log event value row
+  same-reading : (event value row : ℕ) → row < length (log .clocks) → readsAt (withRows log more) event value row ≡ readsAt log event value row
   same-reading event value row h = ap₂ (λ (known values : ℕ). hasReading known values event value) (same-known row h) (same-values row h)
 
   -- and there are no fewer
@@ -114,8 +114,8 @@ module _ (x : Scene) (more : Log) (valid : validLog (x .log) ≡ true) (valid′
   released-same (Released.At q n) r′ e v = rw e (refl, v)
   released-same (Released.End n) r′ e v = tt
 
-  pub added-nears : Nears x (withRows (x .log) more) (SamePlace (x .log))
-  added-nears = record {
+  pub added-logs : LogsBeside x (withRows (x .log) more) (SamePlace (x .log))
+  added-logs = record {
     start = (refl, valid-row-start (x .log) valid 0 (omega arith));
     waits = λ p p′ (e, v) n c.
         let w = same-wait (x .log) more valid valid′ p n v c in

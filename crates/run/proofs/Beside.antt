@@ -1,4 +1,4 @@
--- A slot's runs under two logs, turn by turn: alike but for their places until a wait holds up the first. Assumes nothing.
+-- A slot's runs under two logs, turn by turn: alike but for their places until a wait of the first is unfinished. Assumes nothing.
 use Prim.Native.Nat.{ℕ, zero, suc, _+_}
 use mathlib.Core.Path.{_≡_, refl, sym, ap₂, _∙_}
 use mathlib.Core.Bool.{Bool, true, false, cond}
@@ -9,6 +9,7 @@ use borrow.Author.Tests.{eqb-true, eq-eqb}
 use Rattle.isa.specs.declared.reader.Decoded.{Decoded}
 use Rattle.refusals.specs.declared.refusals.Unreadable.{Unreadable}
 use Rattle.log.specs.Log.{Log}
+use Rattle.log.specs.Validity.{logStart}
 use Rattle.log.specs.declared.place.Place.{Place}
 use Rattle.waits.specs.Wait.{waitOf}
 use Rattle.ewaits.specs.Ewait.{ewaitOf}
@@ -26,48 +27,48 @@ use Rattle.turn.specs.declared.turn.Effect.{Effect}
 use Rattle.turn.specs.declared.turn.Turn.{Turn}
 use Rattle.run.specs.Run.{Write, wroteBy, fetchedBy}
 use Rattle.run.specs.SlotRun.{Scene, withLog, fetchIn, SlotRun, slotBegun, tookTurn, nextTurn, slotRunFor}
-use Rattle.run.specs.MoreLog.{Begins}
+use Rattle.run.specs.MoreLog.{KeepsWrites}
 
 -- a scene and another log; how a place in the one log stands to one in the other
-module _ (x : Scene) (log′ : Log) (Near : Place → Place → Type 0) where
+module _ (x : Scene) (log′ : Log) (PlacesBeside : Place → Place → Type 0) where
   -- an ewait that the first log releases the second releases too
   abbrev pub ReleasedToo : Released → Released → Type 0
-  ReleasedToo (Released.At q n) (Released.At q′ n′) = Near q q′
+  ReleasedToo (Released.At q n) (Released.At q′ n′) = PlacesBeside q q′
   ReleasedToo (Released.At q n) (Released.End n′) = ⊥
   ReleasedToo (Released.End n) r′ = Unit {0}
 
-  -- what is asked of the two logs: waits from near places end at near places, if they end under the first
-  pub record Nears : Type 0 where
-    pub start : Near (record { row = 0; used = 0 }) (record { row = 0; used = 0 })
-    pub waits : (p p′ : Place) → Near p p′ → (n : ℕ) → waitOf (x .log .clocks) p n .cut ≡ 0
-        → (waitOf (log′ .clocks) p′ n .cut ≡ 0) × (Near (waitOf (x .log .clocks) p n .place) (waitOf (log′ .clocks) p′ n .place))
-    pub ewaits : (p p′ : Place) → Near p p′ → (event value : ℕ) → ReleasedToo (ewaitOf (x .log) p event value) (ewaitOf log′ p′ event value)
+  -- what is asked of the two logs: waits from places beside each other end at such places, if they end under the first
+  pub record LogsBeside : Type 0 where
+    pub start : PlacesBeside logStart logStart
+    pub waits : (p p′ : Place) → PlacesBeside p p′ → (n : ℕ) → waitOf (x .log .clocks) p n .cut ≡ 0
+        → (waitOf (log′ .clocks) p′ n .cut ≡ 0) × (PlacesBeside (waitOf (x .log .clocks) p n .place) (waitOf (log′ .clocks) p′ n .place))
+    pub ewaits : (p p′ : Place) → PlacesBeside p p′ → (event value : ℕ) → ReleasedToo (ewaitOf (x .log) p event value) (ewaitOf log′ p′ event value)
 
   -- ---- how time passes in an action
 
   data TimesBeside (action : Action) (e e′ : Elapsed) : Type 0 where
-    both : e′ .finished ≡ e .finished → e′ .waited ≡ e .waited → Near (e .place) (e′ .place) → TimesBeside action e e′
-    held : ((enable : Bool) → modeAfter action enable (e .finished) ≡ Mode.Waiting)
+    both : e′ .finished ≡ e .finished → e′ .waited ≡ e .waited → PlacesBeside (e .place) (e′ .place) → TimesBeside action e e′
+    unfinished : ((enable : Bool) → modeAfter action enable (e .finished) ≡ Mode.Waiting)
         → ((enable : Bool) (addr word : ℕ) → wroteBy (effectOf action enable addr word) ≡ []) → TimesBeside action e e′
 
   data TurnsBeside (t t′ : Turn) : Type 0 where
-    both : t′ .slot ≡ t .slot → t′ .flags ≡ t .flags → t′ .effect ≡ t .effect → t′ .waited ≡ t .waited → Near (t .place) (t′ .place) → TurnsBeside t t′
-    held : t .slot .mode ≡ Mode.Waiting → wroteBy (t .effect) ≡ [] → TurnsBeside t t′
+    both : t′ .slot ≡ t .slot → t′ .flags ≡ t .flags → t′ .effect ≡ t .effect → t′ .waited ≡ t .waited → PlacesBeside (t .place) (t′ .place) → TurnsBeside t t′
+    unfinished : t .slot .mode ≡ Mode.Waiting → wroteBy (t .effect) ≡ [] → TurnsBeside t t′
 
-  -- the first run is held up, or both have done the same
+  -- both have done the same, or the first is in an unfinished wait
   pub data RunsBeside (r r′ : SlotRun) : Type 0 where
-    level : r′ .slot ≡ r .slot → r′ .flags ≡ r .flags → r′ .writes ≡ r .writes → r′ .count ≡ r .count → r′ .waits ≡ r .waits
-        → Near (r .place) (r′ .place) → RunsBeside r r′
-    behind : r .slot .mode ≡ Mode.Waiting → Begins (r .writes) (r′ .writes) → RunsBeside r r′
+    both : r′ .slot ≡ r .slot → r′ .flags ≡ r .flags → r′ .writes ≡ r .writes → r′ .count ≡ r .count → r′ .waits ≡ r .waits
+        → PlacesBeside (r .place) (r′ .place) → RunsBeside r r′
+    unfinished : r .slot .mode ≡ Mode.Waiting → KeepsWrites (r .writes) (r′ .writes) → RunsBeside r r′
 
-  module _ (nears : Nears) where
+  module _ (logs : LogsBeside) where
     ewait-beside : (event value : ℕ) (r r′ : Released) → ReleasedToo r r′
         → TimesBeside (Action.Ewait event value) (afterEwait (length (x .log .clocks)) r) (afterEwait (length (log′ .clocks)) r′)
     ewait-beside event value (Released.At q n) (Released.At q′ n′) near = TimesBeside.both refl refl near
     ewait-beside event value (Released.At q n) (Released.End n′) near = absurd near
-    ewait-beside event value (Released.End n) r′ near = TimesBeside.held (λ enable. refl) (λ enable addr word. refl)
+    ewait-beside event value (Released.End n) r′ near = TimesBeside.unfinished (λ enable. refl) (λ enable addr word. refl)
 
-    module _ (p p′ : Place) (near : Near p p′) where
+    module _ (p p′ : Place) (near : PlacesBeside p p′) where
       times-beside : (action : Action) → TimesBeside action (elapsedOf action (x .log) p) (elapsedOf action log′ p′)
       times-beside (Action.Wait n) = by (elapsedOf (Action.Wait n) (x .log) p .finished) refl
         where
@@ -75,11 +76,11 @@ module _ (x : Scene) (log′ : Log) (Near : Place → Place → Type 0) where
               → TimesBeside (Action.Wait n) (elapsedOf (Action.Wait n) (x .log) p) (elapsedOf (Action.Wait n) log′ p′)
           by true done =
               let none = eqb-true (waitOf (x .log .clocks) p n .cut) 0 done in
-              let w = nears .waits p p′ near n none in
+              let w = logs .waits p p′ near n none in
               TimesBeside.both (eq-eqb (waitOf (log′ .clocks) p′ n .cut) 0 (w .0) ∙ sym done) (omega (arith, none, w .0)) (w .1)
-          by false done = TimesBeside.held (λ enable. rw done refl) (λ enable addr word. refl)
+          by false done = TimesBeside.unfinished (λ enable. rw done refl) (λ enable addr word. refl)
       times-beside (Action.Ewait event value) =
-          ewait-beside event value (ewaitOf (x .log) p event value) (ewaitOf log′ p′ event value) (nears .ewaits p p′ near event value)
+          ewait-beside event value (ewaitOf (x .log) p event value) (ewaitOf log′ p′ event value) (logs .ewaits p p′ near event value)
       times-beside (Action.Flag change flag) = TimesBeside.both refl refl near
       times-beside (Action.Load part word) = TimesBeside.both refl refl near
       times-beside (Action.Poke part word) = TimesBeside.both refl refl near
@@ -89,7 +90,8 @@ module _ (x : Scene) (log′ : Log) (Near : Place → Place → Type 0) where
           → TurnsBeside (performOf enable slot flags action n e) (performOf enable slot flags action n e′)
       unfolding performOf
       performs-beside enable slot flags action n e e′ (TimesBeside.both f w g) = TurnsBeside.both (rw f refl) refl refl w g
-      performs-beside enable slot flags action n e e′ (TimesBeside.held m quiet) = TurnsBeside.held (m enable) (quiet enable (slot .addr .0) (slot .«data»))
+      performs-beside enable slot flags action n e e′ (TimesBeside.unfinished m quiet) =
+          TurnsBeside.unfinished (m enable) (quiet enable (slot .addr .0) (slot .«data»))
 
       turns-beside : (slot : Slot) (flags : Flags) (found : Decoded)
           → TurnsBeside (turnOf (x .family) (x .enable) slot flags (x .log) p found) (turnOf (x .family) (x .enable) slot flags log′ p′ found)
@@ -119,24 +121,25 @@ module _ (x : Scene) (log′ : Log) (Near : Place → Place → Type 0) where
     took-beside : (r r′ : SlotRun) (t t′ : Turn) → r′ .writes ≡ r .writes → r′ .count ≡ r .count → r′ .waits ≡ r .waits → TurnsBeside t t′
         → RunsBeside (tookTurn r t) (tookTurn r′ t′)
     took-beside r r′ t t′ writes count waits (TurnsBeside.both a b c d near) =
-        RunsBeside.level a b
+        RunsBeside.both a b
         (ap₂ (λ (w : List Write) (e : Effect). w ++ wroteBy e) writes c)
         (ap₂ (λ (n : ℕ) (e : Effect). n + fetchedBy e) count c)
         (ap₂ (λ (n m : ℕ). n + m) waits d)
         near
-    took-beside r r′ t t′ writes count waits (TurnsBeside.held m quiet) = RunsBeside.behind m (wroteBy (t′ .effect), rw (quiet, append-nil, writes) refl)
+    took-beside r r′ t t′ writes count waits (TurnsBeside.unfinished m quiet) =
+        RunsBeside.unfinished m (wroteBy (t′ .effect), rw (quiet, append-nil, writes) refl)
 
     -- a slot in a wait is left alone
     waits-on : (r : SlotRun) → r .slot .mode ≡ Mode.Waiting → nextTurn x r ≡ sameTurn (r .slot) (r .flags) (r .place) Effect.Nothing
     waits-on r m = rw m refl
 
     more-beside : (r r′ : SlotRun) → RunsBeside r r′ → RunsBeside (tookTurn r (nextTurn x r)) (tookTurn r′ (nextTurn x′ r′))
-    more-beside r r′ (RunsBeside.level slot flags writes count waits near) =
+    more-beside r r′ (RunsBeside.both slot flags writes count waits near) =
         took-beside r r′ (nextTurn x r) (nextTurn x′ r′) writes count waits
         (rw (slot, flags) (next-beside (r .place) (r′ .place) near (r .slot) (r .flags) (isRunning (r .slot .mode))))
-    more-beside r r′ (RunsBeside.behind m (more, e)) =
+    more-beside r r′ (RunsBeside.unfinished m (more, e)) =
         rw (waits-on r m)
-        (RunsBeside.behind m (more ++ wroteBy (nextTurn x′ r′ .effect), rw (append-nil, e, append-assoc) refl))
+        (RunsBeside.unfinished m (more ++ wroteBy (nextTurn x′ r′ .effect), rw (append-nil, ← e, append-assoc) refl))
 
     run-beside : (n : ℕ) (r r′ : SlotRun) → RunsBeside r r′ → RunsBeside (slotRunFor x n r) (slotRunFor x′ n r′)
     unfolding slotRunFor
@@ -145,9 +148,9 @@ module _ (x : Scene) (log′ : Log) (Near : Place → Place → Type 0) where
 
     pub slots-beside : (slot : Slot) (flags : Flags) (n : ℕ) → RunsBeside (slotRunFor x n (slotBegun slot flags)) (slotRunFor x′ n (slotBegun slot flags))
     slots-beside slot flags n =
-        run-beside n (slotBegun slot flags) (slotBegun slot flags) (RunsBeside.level refl refl refl refl refl (nears .start))
+        run-beside n (slotBegun slot flags) (slotBegun slot flags) (RunsBeside.both refl refl refl refl refl (logs .start))
 
   -- no write is taken back or changed
-  pub begins : (r r′ : SlotRun) → RunsBeside r r′ → Begins (r .writes) (r′ .writes)
-  begins r r′ (RunsBeside.level slot flags writes count waits near) = ([], writes ∙ sym (append-nil (r .writes)))
-  begins r r′ (RunsBeside.behind m more) = more
+  pub kept-writes : (r r′ : SlotRun) → RunsBeside r r′ → KeepsWrites (r .writes) (r′ .writes)
+  kept-writes r r′ (RunsBeside.both slot flags writes count waits near) = ([], append-nil (r .writes) ∙ sym writes)
+  kept-writes r r′ (RunsBeside.unfinished m more) = more

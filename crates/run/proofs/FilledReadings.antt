@@ -10,18 +10,18 @@ use borrow.Author.Tests.{lt-ltb, eq-eqb}
 use Rattle.log.specs.Log.{Log}
 use Rattle.log.specs.Validity.{validLog, validPlace}
 use Rattle.log.specs.declared.place.Place.{Place}
-use Rattle.log.proofs.ValidLaws.{row-within, used-below, valid-row-start}
+use Rattle.log.proofs.ValidLaws.{used-below, valid-row-start}
 use Rattle.waits.specs.Left.{leftOf}
 use Rattle.waits.specs.Wait.{waitOf}
-use Rattle.waits.proofs.LeftLaws.{left-end, left-on, left-in-row, left-from, left-later, left-fits}
-use Rattle.waits.proofs.WaitLaws.{wait-within, wait-spent, cut-at-end, wait-valid}
+use Rattle.waits.proofs.LeftLaws.{left-on, left-in-row, left-from, left-later, left-fits}
+use Rattle.waits.proofs.WaitLaws.{wait-cut, wait-spent, wait-valid}
 use Rattle.ewaits.specs.Ewait.{bitOf, hasReading, searchFrom, passedBy, OnReading, leftAfter}
 use Rattle.ewaits.specs.declared.ewait.Released.{Released}
-use Rattle.ewaits.proofs.EwaitLaws.{FoundBy, EndsAt, EndsFrom, ReleasedWithin, released, search-finds, search-ends}
+use Rattle.ewaits.proofs.EwaitLaws.{FoundBy, EndsAt, EndsFrom, ReleasedWithin, readsAt, search-finds, search-ends}
 use Rattle.ewaits.proofs.EwaitLaws.{ewait-on-reading, ewait-spent, ewait-valid, valid-search}
 use Rattle.run.specs.SlotRun.{Scene}
 use Rattle.run.specs.MoreLog.{FilledIn}
-use Rattle.run.proofs.Beside.{ReleasedToo, Nears}
+use Rattle.run.proofs.Beside.{ReleasedToo, LogsBeside}
 
 module _ (clocks : List ℕ) where
   -- two places of one log, of which the second has no less left
@@ -43,14 +43,7 @@ module _ (clocks : List ℕ) where
   -- a wait from there is not cut either, and leaves no less
   module _ (p p′ : Place) (near : NoLess p p′) (n : ℕ) (done : waitOf clocks p n .cut ≡ 0) where
     wait-done : waitOf clocks p′ n .cut ≡ 0
-    wait-done =
-        elim (decLt 0 (waitOf clocks p′ n .cut)) as (λ _. waitOf clocks p′ n .cut ≡ 0) [
-          | yes c ↦
-              let end = cut-at-end clocks p′ n (row-within clocks p′ (near .within′)) c in
-              let none = left-end clocks (waitOf clocks p′ n .place .row) (waitOf clocks p′ n .place .used) (omega (arith, end .0)) in
-              absurd (omega (arith, done, near .left, wait-within clocks p′ n, wait-spent clocks p n, wait-spent clocks p′ n))
-          | no c ↦ omega arith
-        ]
+    wait-done = omega (arith, done, near .left, wait-cut clocks p n, wait-cut clocks p′ n)
 
     wait-left : leftOf clocks (waitOf clocks p n .place) ≤ leftOf clocks (waitOf clocks p′ n .place)
     wait-left = omega (arith, done, wait-done, near .left, wait-spent clocks p n, wait-spent clocks p′ n)
@@ -66,16 +59,20 @@ module _ (clocks : List ℕ) where
             elim (decLt (p′ .row) (q′ .row)) as (λ _. leftOf clocks q ≤ leftOf clocks q′) [
               | yes m ↦ rw e (left-in-row clocks (q′ .row) (q′ .used) (q .used) (omega (arith, ends′ .row-start m)))
               | no m ↦
-                  let begun : p′ .row ≡ q′ .row = omega (arith, row-order p p′ near (omega (arith, ends .from, ends .inside)), ends .from) in
-                  let kept : leftOf clocks p′ ≤ leftOf clocks q′ = rw begun (left-in-row clocks (q′ .row) (q′ .used) (p′ .used) (ends′ .used-most)) in
+                  let same-row : p′ .row ≡ q′ .row = omega (arith, row-order p p′ near (omega (arith, ends .from, ends .inside)), ends .from) in
+                  let kept : leftOf clocks p′ ≤ leftOf clocks q′ = rw same-row (left-in-row clocks (q′ .row) (q′ .used) (p′ .used) (ends′ .used-most)) in
                   omega (arith, near .left)
             ]
       ]
 
 module _ (x : Scene) (log′ : Log) (valid : validLog (x .log) ≡ true) (valid′ : validLog log′ ≡ true) (filled : FilledIn (x .log) log′) where
+  -- the rows have the same clocks, so that the same places lie in them
+  inside-too : (p : Place) → validPlace (x .log .clocks) p ≡ true → validPlace (log′ .clocks) p ≡ true
+  inside-too p v = subst (λ (c : List ℕ). validPlace c p ≡ true) (sym (filled .clocks)) v
+
   -- what the first log reads, the second reads
   reads-too : (row event value : ℕ) → (event < 32) × (bitOf (getD (x .log .known) row 0) event ≡ 1) × (bitOf (getD (x .log .values) row 0) event ≡ value)
-      → released log′ event value row ≡ true
+      → readsAt log′ event value row ≡ true
   unfolding hasReading
   reads-too row event value o =
       rw (
@@ -99,7 +96,7 @@ module _ (x : Scene) (log′ : Log) (valid : validLog (x .log) ≡ true) (valid�
     record SearchedToo (r : Released) : Type 0 where
       ends : EndsFrom (length clocks) (p′ .row) (p′ .used) r
       valid-place : ReleasedWithin clocks r
-      finds : (at : ℕ) → at < length clocks → released log′ event value at ≡ true → p′ .row ≤ at → FoundBy at r
+      finds : (at : ℕ) → at < length clocks → readsAt log′ event value at ≡ true → p′ .row ≤ at → FoundBy at r
 
     searched : Searched (searchFrom (x .log) event value (p .row) (p .used))
     searched =
@@ -114,7 +111,7 @@ module _ (x : Scene) (log′ : Log) (valid : validLog (x .log) ≡ true) (valid�
     searched-too : SearchedToo (searchFrom log′ event value (p′ .row) (p′ .used))
     searched-too =
         let r = searchFrom log′ event value (p′ .row) (p′ .used) in
-        let found = rw (valid-search log′ valid′ event value p′) at (ewait-valid log′ valid′ event value p′ (rw (filled .clocks) (near .within′))) in
+        let found = rw (valid-search log′ valid′ event value p′) at (ewait-valid log′ valid′ event value p′ (inside-too p′ (near .within′))) in
         record {
           ends = subst (λ (c : List ℕ). EndsFrom (length c) (p′ .row) (p′ .used) r) (filled .clocks) (search-ends log′ event value (p′ .row) (p′ .used));
           valid-place = subst (λ (c : List ℕ). ReleasedWithin c r) (filled .clocks) found;
@@ -136,11 +133,11 @@ module _ (x : Scene) (log′ : Log) (valid : validLog (x .log) ≡ true) (valid�
         }
         by (Released.End n′) two found = absurd found
 
-  pub filled-nears : Nears x log′ (NoLess clocks)
-  filled-nears =
-      let begins = valid-row-start (x .log) valid 0 (omega arith) in
+  pub filled-logs : LogsBeside x log′ (NoLess clocks)
+  filled-logs =
+      let inside = valid-row-start (x .log) valid 0 (omega arith) in
       record {
-        start = record { within = begins; within′ = begins; left = omega arith };
+        start = record { within = inside; within′ = inside; left = omega arith };
         waits = λ p p′ near n done.
             rw (filled .clocks) (
               wait-done clocks p p′ near n done,

@@ -33,7 +33,7 @@ module _ (s : State) (log : Log) (family : knownFamily (s .family) ≡ true) (va
         → nextStep name log (inState s name r) ≡ afterTurn s name (nextTurn (sceneOf s log) r)
     step-in-state r v = step-by name has r v (isRunning (r .slot .mode)) refl
 
-    run-in-state : (n : ℕ) (r : SlotRun) → validPlace (log .clocks) (r .place) ≡ true
+    pub run-in-state : (n : ℕ) (r : SlotRun) → validPlace (log .clocks) (r .place) ≡ true
         → runFor name log n (inState s name r) ≡ inState s name (slotRunFor (sceneOf s log) n r)
     unfolding runFor slotRunFor
     run-in-state zero r v = refl
@@ -41,7 +41,7 @@ module _ (s : State) (log : Log) (family : knownFamily (s .family) ≡ true) (va
         rw (step-in-state r v)
         (run-in-state n (tookTurn r (nextTurn (sceneOf s log) r)) (next-place (sceneOf s log) valid r v))
 
-  begun-in-state : (name : SlotName) → begun s ≡ inState s name (slotBegun (slotOf s name) (s .flags))
+  pub begun-in-state : (name : SlotName) → begun s ≡ inState s name (slotBegun (slotOf s name) (s .flags))
   begun-in-state SlotName.A = refl
   begun-in-state SlotName.B = refl
 

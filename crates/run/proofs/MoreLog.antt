@@ -8,8 +8,7 @@ use native.Mathlib.Omega.{arith}
 use Rattle.families.specs.Family.{knownFamily}
 use Rattle.isa.proofs.Tests.{both-left, cond-elim}
 use Rattle.log.specs.Log.{Log}
-use Rattle.log.specs.Validity.{validLog, validPlace}
-use Rattle.log.specs.declared.place.Place.{Place}
+use Rattle.log.specs.Validity.{validLog, logStart, validPlace}
 use Rattle.log.proofs.ValidLaws.{valid-row-start}
 use Rattle.waits.specs.Left.{leftOf}
 use Rattle.flags.specs.declared.flags.Flags.{Flags}
@@ -23,15 +22,16 @@ use Rattle.machine.specs.Step.{advanceOf, stepOf}
 use Rattle.machine.specs.declared.steps.Stepped.{Stepped}
 use Rattle.run.specs.Run.{noted, begun, runFor}
 use Rattle.run.specs.SlotRun.{Scene, withLog, SlotRun, slotBegun, slotRunFor, sceneOf, inState}
-use Rattle.run.specs.MoreLog.{withRows, FilledIn, SaysMore, Begins, NoLater, HeldUp, AddsOnly, KeepsUp, RowsAdded, ReadingsFilled}
+use Rattle.run.specs.MoreLog.{withRows, FilledIn, SaysMore, KeepsWrites, NoLater, Unfinished, AddsOnly, KeepsUp, RowsAdded, ReadingsFilled}
 use Rattle.run.proofs.SlotRuns.{slot-clocks}
-use Rattle.run.proofs.InState.{follows}
-use Rattle.run.proofs.Beside.{RunsBeside, slots-beside, begins}
-use Rattle.run.proofs.AddedRows.{SamePlace, added-left, added-nears}
-use Rattle.run.proofs.FilledReadings.{NoLess, filled-nears}
+use Rattle.run.proofs.InState.{run-in-state, begun-in-state}
+use Rattle.run.proofs.Beside.{RunsBeside, slots-beside, kept-writes}
+use Rattle.run.proofs.AddedRows.{SamePlace, added-left, added-logs}
+use Rattle.run.proofs.FilledReadings.{NoLess, filled-logs}
 
-abbrev start : Place
-start = record { row = 0; used = 0 }
+-- the clock law
+abbrev Clocked : List ℕ → SlotRun → Type 0
+Clocked clocks r = leftOf clocks logStart ≡ r .waits + r .ewaits + leftOf clocks (r .place)
 
 -- ---- of a slot's run
 
@@ -42,28 +42,28 @@ module _ (x : Scene) (slot : Slot) (flags : Flags) (valid : validLog (x .log) �
 
   added-beside : (more : Log) → validLog (withRows (x .log) more) ≡ true
       → RunsBeside x (withRows (x .log) more) (SamePlace (x .log)) (ran (x .log)) (ran (withRows (x .log) more))
-  added-beside more valid′ = slots-beside x (withRows (x .log) more) (SamePlace (x .log)) (added-nears x more valid valid′) slot flags n
+  added-beside more valid′ = slots-beside x (withRows (x .log) more) (SamePlace (x .log)) (added-logs x more valid valid′) slot flags n
 
   filled-beside : (log′ : Log) → validLog log′ ≡ true → FilledIn (x .log) log′ → RunsBeside x log′ (NoLess (x .log .clocks)) (ran (x .log)) (ran log′)
-  filled-beside log′ valid′ filled = slots-beside x log′ (NoLess (x .log .clocks)) (filled-nears x log′ valid valid′ filled) slot flags n
+  filled-beside log′ valid′ filled = slots-beside x log′ (NoLess (x .log .clocks)) (filled-logs x log′ valid valid′ filled) slot flags n
 
   -- whichever way the second log says more
-  pub slot-begins : (log′ : Log) → validLog log′ ≡ true → SaysMore (x .log) log′ → Begins (ran (x .log) .writes) (ran log′ .writes)
-  slot-begins log′ valid′ (inl (more, e)) =
-      subst (λ (log′ : Log). validLog log′ ≡ true → Begins (ran (x .log) .writes) (ran log′ .writes)) (sym e)
-      (λ valid′. begins x (withRows (x .log) more) (SamePlace (x .log)) (ran (x .log)) (ran (withRows (x .log) more)) (added-beside more valid′)) valid′
-  slot-begins log′ valid′ (inr filled) =
-      begins x log′ (NoLess (x .log .clocks)) (ran (x .log)) (ran log′) (filled-beside log′ valid′ filled)
+  pub slot-keeps : (log′ : Log) → validLog log′ ≡ true → SaysMore (x .log) log′ → KeepsWrites (ran (x .log) .writes) (ran log′ .writes)
+  slot-keeps log′ valid′ (inl (more, e)) =
+      subst (λ (log′ : Log). validLog log′ ≡ true → KeepsWrites (ran (x .log) .writes) (ran log′ .writes)) (sym e)
+      (λ valid′. kept-writes x (withRows (x .log) more) (SamePlace (x .log)) (ran (x .log)) (ran (withRows (x .log) more)) (added-beside more valid′)) valid′
+  slot-keeps log′ valid′ (inr filled) =
+      kept-writes x log′ (NoLess (x .log .clocks)) (ran (x .log)) (ran log′) (filled-beside log′ valid′ filled)
 
 -- ---- of a state's run
 
 module _ (name : SlotName) (s : State) where
   -- a family that lacks the slot takes no step of it
-  no-step : (log : Log) → hasSlot (s .family) name ≡ false → noted (begun s) (stepOf s name log start) ≡ begun s
+  no-step : (log : Log) → hasSlot (s .family) name ≡ false → noted (begun s) (stepOf s name log logStart) ≡ begun s
   unfolding stepOf advanceOf
   no-step log lacks =
       cond-elim Still (knownFamily (s .family))
-      (λ _. cond-elim Still (validLog log && validPlace (log .clocks) start)
+      (λ _. cond-elim Still (validLog log && validPlace (log .clocks) logStart)
       (λ _. cond-elim Still (hasSlot (s .family) name && isRunning (slotOf s name .mode))
       (λ runs. absurd (true≢false (sym (both-left (hasSlot (s .family) name) (isRunning (slotOf s name .mode)) runs) ∙ lacks)))
       (λ _. refl))
@@ -86,19 +86,13 @@ module _ (name : SlotName) (s : State) where
     -- one that has it runs as its slot does
     in-state : (log : Log) → validLog log ≡ true → (n : ℕ) → runFor name log n (begun s) ≡ inState s name (slotRun log n)
     in-state log valid n =
-        follows (sceneOf s log) (slotOf s name) (s .flags) name s
-        (record {
-          known-family = known-slot (s .family) name has;
-          slot-there = has;
-          same-scene = record { family = refl; enable = refl; log = refl; fetches = λ at. refl };
-          same-slot = refl;
-          same-flags = refl;
-        })
-        valid n
+        let family = known-slot (s .family) name has in
+        ap (runFor name log n) (begun-in-state s log family valid name)
+        ∙ run-in-state s log family valid name has n (slotBegun (slotOf s name) (s .flags)) (valid-row-start log valid 0 (omega arith))
 
-    -- a slot that is held up holds up its state's run
-    held-too : (r : SlotRun) → (HeldUp name (inState s name r) → ⊥) → r .slot .mode ≡ Mode.Waiting → ⊥
-    held-too r free m = free (ap (λ (slot : Slot). slot .mode) (slot-back name s (r .slot) (r .flags)) ∙ m)
+    -- a slot's unfinished wait is one of its state's run
+    waits-too : (r : SlotRun) → (Unfinished name (inState s name r) → ⊥) → r .slot .mode ≡ Mode.Waiting → ⊥
+    waits-too r free m = free (ap (λ (slot : Slot). slot .mode) (slot-back name s (r .slot) (r .flags)) ∙ m)
 
     module _ (log more : Log) (valid : validLog log ≡ true) (valid′ : validLog (withRows log more) ≡ true) (n : ℕ) where
       beside : RunsBeside (sceneOf s log) (withRows log more) (SamePlace log) (slotRun log n) (slotRun (withRows log more) n)
@@ -106,41 +100,37 @@ module _ (name : SlotName) (s : State) where
 
       added-in : AddsOnly name (inState s name (slotRun log n)) (inState s name (slotRun (withRows log more) n))
       added-in = record {
-        begins = begins (sceneOf s log) (withRows log more) (SamePlace log) (slotRun log n) (slotRun (withRows log more) n) beside;
+        keeps-writes = kept-writes (sceneOf s log) (withRows log more) (SamePlace log) (slotRun log n) (slotRun (withRows log more) n) beside;
         same = λ free. by (slotRun log n) (slotRun (withRows log more) n) beside free
             (slot-clocks (sceneOf s log) valid (slotOf s name) (s .flags) n)
             (slot-clocks (sceneOf s (withRows log more)) valid′ (slotOf s name) (s .flags) n);
       }
         where
-          by : (r r′ : SlotRun) → RunsBeside (sceneOf s log) (withRows log more) (SamePlace log) r r′ → (HeldUp name (inState s name r) → ⊥)
-              → leftOf (log .clocks) start ≡ r .waits + r .ewaits + leftOf (log .clocks) (r .place)
-              → leftOf (withRows log more .clocks) start ≡ r′ .waits + r′ .ewaits + leftOf (withRows log more .clocks) (r′ .place)
-              → inState s name r′ ≡ inState s name r
-          by r r′ (RunsBeside.level slot flags writes count waits near) free clocked clocked′ =
-              let from-start = added-left log more valid valid′ start (valid-row-start log valid 0 (omega arith)) in
+          by : (r r′ : SlotRun) → RunsBeside (sceneOf s log) (withRows log more) (SamePlace log) r r′ → (Unfinished name (inState s name r) → ⊥)
+              → Clocked (log .clocks) r → Clocked (withRows log more .clocks) r′ → inState s name r′ ≡ inState s name r
+          by r r′ (RunsBeside.both slot flags writes count waits near) free clocked clocked′ =
+              let from-start = added-left log more valid valid′ logStart (valid-row-start log valid 0 (omega arith)) in
               let from-place = added-left log more valid valid′ (r .place) (near .1) in
               let ewaits : r′ .ewaits ≡ r .ewaits = omega (arith, ap (leftOf (withRows log more .clocks)) (near .0)) in
               rw (slot, flags, near .0, writes, count, waits, ewaits) refl
-          by r r′ (RunsBeside.behind m more) free clocked clocked′ = absurd (held-too r free m)
+          by r r′ (RunsBeside.unfinished m more) free clocked clocked′ = absurd (waits-too r free m)
 
     module _ (log log′ : Log) (valid : validLog log ≡ true) (valid′ : validLog log′ ≡ true) (filled : FilledIn log log′) (n : ℕ) where
       filled-in : KeepsUp name (log .clocks) (inState s name (slotRun log n)) (inState s name (slotRun log′ n))
       filled-in =
           let beside = filled-beside (sceneOf s log) (slotOf s name) (s .flags) valid n log′ valid′ filled in
           record {
-            begins = begins (sceneOf s log) log′ (NoLess (log .clocks)) (slotRun log n) (slotRun log′ n) beside;
+            keeps-writes = kept-writes (sceneOf s log) log′ (NoLess (log .clocks)) (slotRun log n) (slotRun log′ n) beside;
             no-later = λ free. by (slotRun log n) (slotRun log′ n) beside free
                 (slot-clocks (sceneOf s log) valid (slotOf s name) (s .flags) n)
-                (subst (λ (clocks : List ℕ). leftOf clocks start ≡ slotRun log′ n .waits + slotRun log′ n .ewaits + leftOf clocks (slotRun log′ n .place))
-                (filled .clocks) (slot-clocks (sceneOf s log′) valid′ (slotOf s name) (s .flags) n));
+                (subst (λ (clocks : List ℕ). Clocked clocks (slotRun log′ n)) (filled .clocks)
+                (slot-clocks (sceneOf s log′) valid′ (slotOf s name) (s .flags) n));
             gone-by = omega (arith, slot-clocks (sceneOf s log) valid (slotOf s name) (s .flags) n);
           }
         where
-          by : (r r′ : SlotRun) → RunsBeside (sceneOf s log) log′ (NoLess (log .clocks)) r r′ → (HeldUp name (inState s name r) → ⊥)
-              → leftOf (log .clocks) start ≡ r .waits + r .ewaits + leftOf (log .clocks) (r .place)
-              → leftOf (log .clocks) start ≡ r′ .waits + r′ .ewaits + leftOf (log .clocks) (r′ .place)
-              → NoLater (log .clocks) (inState s name r) (inState s name r′)
-          by r r′ (RunsBeside.level slot flags writes count waits near) free clocked clocked′ = record {
+          by : (r r′ : SlotRun) → RunsBeside (sceneOf s log) log′ (NoLess (log .clocks)) r r′ → (Unfinished name (inState s name r) → ⊥)
+              → Clocked (log .clocks) r → Clocked (log .clocks) r′ → NoLater (log .clocks) (inState s name r) (inState s name r′)
+          by r r′ (RunsBeside.both slot flags writes count waits near) free clocked clocked′ = record {
             state = rw (slot, flags) refl;
             writes = writes;
             count = count;
@@ -148,7 +138,7 @@ module _ (name : SlotName) (s : State) where
             ewaits = omega (arith, waits, near .left);
             gone = omega (arith, near .left);
           }
-          by r r′ (RunsBeside.behind m more) free clocked clocked′ = absurd (held-too r free m)
+          by r r′ (RunsBeside.unfinished m more) free clocked clocked′ = absurd (waits-too r free m)
 
   -- ---- the two claims
 
@@ -157,7 +147,7 @@ module _ (name : SlotName) (s : State) where
     where
       by : (has : Bool) → hasSlot (s .family) name ≡ has → AddsOnly name (runFor name log n (begun s)) (runFor name (withRows log more) n (begun s))
       by true has = rw (in-state has log valid n, in-state has (withRows log more) valid′ n) (added-in has log more valid valid′ n)
-      by false lacks = rw (no-run log lacks n, no-run (withRows log more) lacks n) (record { begins = ([], refl); same = λ _. refl })
+      by false lacks = rw (no-run log lacks n, no-run (withRows log more) lacks n) (record { keeps-writes = ([], refl); same = λ _. refl })
 
   pub readings-filled : ReadingsFilled name s
   readings-filled log log′ valid valid′ filled n = by (hasSlot (s .family) name) refl
@@ -167,7 +157,7 @@ module _ (name : SlotName) (s : State) where
       by false lacks =
           rw (no-run log lacks n, no-run log′ lacks n)
           (record {
-            begins = ([], refl);
+            keeps-writes = ([], refl);
             no-later = λ _. record { state = refl; writes = refl; count = refl; waits = refl; ewaits = omega arith; gone = omega arith };
             gone-by = omega arith;
           })

@@ -1,22 +1,27 @@
 -- The worked pairs of runs, by computation. Assumes nothing.
 use Prim.Native.Nat.{ℕ, zero, suc, _^_}
 use mathlib.Core.Path.{_≡_, refl}
+use mathlib.Core.Logic.{inl, inr}
+use mathlib.Core.Bool.{true}
+use mathlib.Core.List.{[], _∷_}
 use native.Mathlib.Nat.{zero-div}
 use native.Mathlib.Omega.{arith}
 use lib.ListN.{getD}
 use Rattle.families.specs.Family.{byFamily}
 use Rattle.isa.specs.Opcode.{opcodeAt}
 use Rattle.isa.specs.Reader.{decodeOf}
-use Rattle.isa.specs.Wait.{waitClocks}
 use Rattle.fetch.specs.Fetch.{allMarked, fetchOf}
 use Rattle.waits.specs.Left.{leftIn}
 use Rattle.ewaits.specs.Ewait.{bitOf, hasReading, searchIn}
+use Rattle.log.specs.Log.{logOf}
 use Rattle.log.specs.Validity.{validLog, validPlace}
 use Rattle.turn.specs.Turn.{performOf}
+use Rattle.state.specs.declared.slots.SlotName.{SlotName}
 use Rattle.machine.specs.Step.{advanceOf, stepOf}
 use Rattle.run.specs.Run.{runFor}
-use Rattle.run.specs.MoreLog.{FilledIn}
-use Rattle.run.specs.Pairs.{unread, eventFilled, Pairs}
+use Rattle.run.specs.MoreLog.{FilledIn, Unfinished}
+use Rattle.run.specs.Pairs.{holding, after, cutOff, rowAdded, twoEwaits, unread, eventFilled, Pairs}
+use Rattle.run.proofs.MoreLog.{readings-filled}
 
 -- no bit of 0 is set
 no-bit : (event : ℕ) → bitOf 0 event ≡ 1 → ⊥
@@ -37,15 +42,26 @@ filled = record { clocks = refl; known = known; values = λ event row. values ro
     values (suc zero) event e = refl
     values (suc (suc row)) event e = refl
 
+valid : (validLog cutOff ≡ true) × (validLog rowAdded ≡ true) × (validLog unread ≡ true) × (validLog eventFilled ≡ true)
+unfolding validLog
+valid = (refl, refl, refl, refl)
+
+finished : Unfinished SlotName.A (after twoEwaits unread 5) → ⊥
+unfolding runFor stepOf advanceOf validLog validPlace byFamily fetchOf allMarked decodeOf opcodeAt performOf searchIn hasReading
+finished h = let z : _≡_ {A = ℕ} 0 1 = cc in omega arith
+
 pub pairs : Pairs
-unfolding runFor stepOf advanceOf validLog validPlace byFamily fetchOf allMarked decodeOf opcodeAt waitClocks performOf searchIn hasReading leftIn
+unfolding runFor stepOf advanceOf validLog validPlace byFamily fetchOf allMarked decodeOf opcodeAt performOf searchIn hasReading leftIn
 pairs = record {
-  held-up = refl;
+  valid = valid;
+  say-more = (inl (logOf (32 ∷ []) (1 ∷ []) (1 ∷ []), refl), inr filled);
+  unfinished = refl;
   one-write = refl;
   two-writes = refl;
   goes-on = refl;
-  filled = filled;
-  free = λ h. let z : _≡_ {A = ℕ} 0 1 = cc in omega arith;
   first = (refl, refl);
   second = (refl, refl);
+  finished = finished;
+  -- as the claim says
+  same-state = readings-filled SlotName.A (holding twoEwaits) unread eventFilled (valid .2) (valid .3) filled 5 .no-later finished .state;
 }

@@ -2,7 +2,7 @@
 use Prim.Native.Nat.{ℕ, _*_}
 use mathlib.Core.Path.{_≡_, refl, sym, ap, subst, _∙_}
 use mathlib.Core.Bool.{Bool, true, false, cond, not}
-use mathlib.Core.List.{List, [], append-nil}
+use mathlib.Core.List.{List, IsPrefix}
 use native.Mathlib.Omega.{arith}
 use lib.Dec.{leb}
 use lib.ListN.{length, take}
@@ -15,15 +15,15 @@ use Rattle.machine.specs.declared.steps.Stepped.{Stepped}
 use Rattle.refusals.specs.declared.refusals.Unreplayable.{Unreplayable}
 use Rattle.run.specs.Run.{Run}
 use Rattle.run.specs.SlotRun.{Scene, withLog, slotRunOf}
-use Rattle.run.specs.Replay.{maxEntries, fullSteps, fullSlotRun, progressOf, writtenInto, toldAnswer, runNumber, answerNumber}
+use Rattle.run.specs.Replay.{maxEntries, fullSteps, fullSlotRun, progressOf, entriesOf, writtenInto, toldAnswer, runNumber, answerNumber}
 use Rattle.run.specs.Replay.{runAnswerOf, runRefusal, lentAfter, RunEnds, EndsRight, RunsSlot}
 use Rattle.run.specs.declared.answers.Progress.{Progress}
 use Rattle.run.specs.declared.answers.RunAnswer.{RunAnswer}
 use Rattle.run.proofs.SlotRuns.{slot-clocks}
 use Rattle.run.proofs.InState.{run-back, follows, full-follows, full-next-follows}
-use Rattle.run.proofs.MoreLog.{slot-begins}
+use Rattle.run.proofs.MoreLog.{slot-keeps}
 use Rattle.run.proofs.Pairs.{pairs}
-use Rattle.run.proofs.Entries.{first-entries}
+use Rattle.run.proofs.Entries.{written-entries, entries-prefix}
 use Rattle.run.proofs.Held.{is-held}
 use Rattle.run.proofs.Settled.{stops}
 
@@ -76,11 +76,11 @@ module _ (x : Scene) (slot : Slot) (flags : Flags) where
       stops = λ m.
           let stop = stops x slot flags m in
           (stop .0, λ name s h. ap (λ (t : Stepped). t .effect) (full-next-follows x slot flags name s h valid) ∙ stop .1);
-      begins = λ log′ valid′ says lent.
+      keeps-writes = λ log′ valid′ says.
           let writes = fullSlotRun x slot flags .writes in
-          let writes′ = fullSlotRun (withLog x log′) slot flags .writes in
-          first-entries writes writes′ lent (slot-begins x slot flags valid (fullSteps (x .family)) log′ valid′ says)
-          ∙ sym (ap (take (2 * length writes)) wrote ∙ first-entries writes writes old ([], sym (append-nil writes)));
+          let filled = ap (take (2 * length writes)) wrote ∙ written-entries old writes in
+          subst (λ (entries : List ℕ). IsPrefix entries (entriesOf (fullSlotRun (withLog x log′) slot flags .writes))) (sym filled)
+          (entries-prefix writes (fullSlotRun (withLog x log′) slot flags .writes) (slot-keeps x slot flags valid (fullSteps (x .family)) log′ valid′ says));
       clocked = slot-clocks x valid slot flags (fullSteps (x .family));
     }
 

@@ -5,7 +5,7 @@ use mathlib.Core.Bool.{true}
 use native.Mathlib.Nat.{zero-add, suc-add}
 use native.Mathlib.Omega.{arith}
 use Rattle.isa.proofs.Tests.{cond-elim}
-use Rattle.log.specs.Validity.{validLog, validPlace}
+use Rattle.log.specs.Validity.{validLog, logStart, validPlace}
 use Rattle.log.specs.declared.place.Place.{Place}
 use Rattle.log.proofs.ValidLaws.{valid-row-start}
 use Rattle.waits.specs.Left.{leftOf}
@@ -62,9 +62,9 @@ module _ (x : Scene) where
 
     -- the clock law: a log's total is what waits spent, what ewaits passed by and what is left, after any number of turns
     pub slot-clocks : (slot : Slot) (flags : Flags) (n : ℕ)
-        → (let r = slotRunFor x n (slotBegun slot flags) in left (record { row = 0; used = 0 }) ≡ r .waits + r .ewaits + left (r .place))
+        → (let r = slotRunFor x n (slotBegun slot flags) in left logStart ≡ r .waits + r .ewaits + left (r .place))
     slot-clocks slot flags n =
-        slot-elim (λ (r : SlotRun). left (record { row = 0; used = 0 }) ≡ r .waits + r .ewaits + left (r .place))
+        slot-elim (λ (r : SlotRun). left logStart ≡ r .waits + r .ewaits + left (r .place))
         (λ r h. omega (arith, next-clocks r))
         n (slotBegun slot flags) (omega arith)
       where

@@ -3,10 +3,10 @@ use Prim.Native.Nat.{ℕ, _+_, _-_, _≤_}
 use mathlib.Core.Path.{_≡_}
 use mathlib.Core.Logic.{_⊎_}
 use mathlib.Core.Bool.{true}
-use mathlib.Core.List.{List, _++_}
+use mathlib.Core.List.{List, _++_, IsPrefix}
 use lib.ListN.{getD}
 use Rattle.log.specs.Log.{Log, logOf}
-use Rattle.log.specs.Validity.{validLog}
+use Rattle.log.specs.Validity.{validLog, logStart}
 use Rattle.log.specs.declared.place.Place.{Place}
 use Rattle.waits.specs.Left.{leftOf}
 use Rattle.ewaits.specs.Ewait.{bitOf, SameReadings}
@@ -22,7 +22,8 @@ use Rattle.run.specs.Run.{Run, Write, begun, runFor}
 abbrev pub withRows : Log → Log → Log
 withRows log more = logOf (log .clocks ++ more .clocks) (log .known ++ more .known) (log .values ++ more .values)
 
--- "filling in readings that were missing, known ones unchanged": the same rows, in which what had a reading still has it; what had none may have any now
+-- "filling in readings that were missing, known ones unchanged": the same rows, in which every event that had a reading has the same one; an event that had
+-- none may have any, or none
 pub record FilledIn (log log′ : Log) : Type 0 where
   pub clocks : log′ .clocks ≡ log .clocks
   pub known : (row event : ℕ) → bitOf (getD (log .known) row 0) event ≡ 1 → bitOf (getD (log′ .known) row 0) event ≡ 1
@@ -35,14 +36,14 @@ SaysMore log log′ = ((more : Log) × (log′ ≡ withRows log more)) ⊎ (Fill
 -- ---- what becomes of a run
 
 -- "the writes made before are the beginning of the writes made now": none is taken back or changed, others only come after them
-abbrev pub Begins : List Write → List Write → Type 0
-Begins writes writes′ = (more : List Write) × (writes′ ≡ writes ++ more)
+abbrev pub KeepsWrites : List Write → List Write → Type 0
+KeepsWrites writes writes′ = IsPrefix writes writes′
 
 -- the clocks gone by since the log's start: what it had there less what is left
 abbrev pub goneAt : List ℕ → Place → ℕ
-goneAt clocks p = leftOf clocks (record { row = 0; used = 0 }) - leftOf clocks p
+goneAt clocks p = leftOf clocks logStart - leftOf clocks p
 
--- the second run has done all that the first has, each of its waits ended, and no more clocks have gone by
+-- the second run has done all that the first has and no more clocks have gone by; the slot's mode is the same too, so none of its waits is unfinished either
 pub record NoLater (clocks : List ℕ) (r r′ : Run) : Type 0 where
   pub state : r′ .state ≡ r .state
   pub writes : r′ .writes ≡ r .writes
@@ -52,22 +53,22 @@ pub record NoLater (clocks : List ℕ) (r r′ : Run) : Type 0 where
   pub gone : goneAt clocks (r′ .place) ≤ goneAt clocks (r .place)
 
 module _ (name : SlotName) where
-  -- the slot's wait is unfinished, and the log used up
-  abbrev pub HeldUp : Run → Type 0
-  HeldUp r = slotOf (r .state) name .mode ≡ Mode.Waiting
+  -- the slot is in an unfinished wait
+  abbrev pub Unfinished : Run → Type 0
+  Unfinished r = slotOf (r .state) name .mode ≡ Mode.Waiting
 
   -- what rows added do to a run
   pub record AddsOnly (r r′ : Run) : Type 0 where
-    pub begins : Begins (r .writes) (r′ .writes)
+    pub keeps-writes : KeepsWrites (r .writes) (r′ .writes)
     -- while no wait is unfinished for want of them they change nothing: it is the same run, at the same place
-    pub same : (HeldUp r → ⊥) → r′ ≡ r
+    pub same : (Unfinished r → ⊥) → r′ ≡ r
 
-  -- what readings filled in do to a run of the log's clocks
+  -- what readings filled in do to a run over rows of these clocks
   pub record KeepsUp (clocks : List ℕ) (r r′ : Run) : Type 0 where
-    pub begins : Begins (r .writes) (r′ .writes)
-    -- "never makes a wait end later": after whichever step a wait has ended, it has ended in the second run too, and no later; an unfinished one would
-    -- have been later than any
-    pub no-later : (HeldUp r → ⊥) → NoLater clocks r r′
+    pub keeps-writes : KeepsWrites (r .writes) (r′ .writes)
+    -- "never makes a wait end later": after whichever step a wait has ended, it has ended in the second run too, and no later; an unfinished wait counts as
+    -- later than any end, so nothing is asked where the first run's is unfinished
+    pub no-later : (Unfinished r → ⊥) → NoLater clocks r r′
     -- clocks gone by are those that waits spent and ewaits passed by
     pub gone-by : goneAt clocks (r .place) ≡ r .waits + r .ewaits
 

@@ -5,12 +5,13 @@ use mathlib.Core.Bool.{true, false}
 use mathlib.Core.List.{List, [], _∷_, _++_}
 use lib.ListN.{length, replicate}
 use Rattle.log.specs.Log.{Log, logOf}
+use Rattle.log.specs.Validity.{validLog}
 use Rattle.state.specs.declared.slots.Mode.{Mode}
 use Rattle.state.specs.declared.slots.Slot.{Slot}
 use Rattle.state.specs.declared.slots.SlotName.{SlotName}
 use Rattle.state.specs.declared.state.State.{State}
 use Rattle.run.specs.Run.{Run, Write, begun, runFor}
-use Rattle.run.specs.MoreLog.{withRows, FilledIn, goneAt, HeldUp}
+use Rattle.run.specs.MoreLog.{withRows, SaysMore, goneAt, Unfinished}
 
 -- at place 0, ADDR and DATA 0
 abbrev pub slotIn : Mode → Slot
@@ -67,15 +68,17 @@ abbrev pub eventFilled : Log
 eventFilled = logOf (64 ∷ 32 ∷ []) (2 ∷ 6 ∷ []) (3 ∷ 6 ∷ [])
 
 pub record Pairs : Type 0 where
-  -- held up in the ewait after one write; with the row the ewait ends at its start, and the other write comes after
-  pub held-up : HeldUp SlotName.A (after oneEwait cutOff 5)
+  pub valid : (validLog cutOff ≡ true) × (validLog rowAdded ≡ true) × (validLog unread ≡ true) × (validLog eventFilled ≡ true)
+  pub say-more : (SaysMore cutOff rowAdded) × (SaysMore unread eventFilled)
+  -- the ewait is unfinished after one write; with the row it ends at that row's start, and the other write comes after
+  pub unfinished : Unfinished SlotName.A (after oneEwait cutOff 5)
   pub one-write : after oneEwait cutOff 5 .writes ≡ one 0x101600 ∷ []
   pub two-writes : after oneEwait rowAdded 5 .writes ≡ one 0x101600 ∷ one 0x101604 ∷ []
   pub goes-on : goneAt (rowAdded .clocks) (after oneEwait rowAdded 5 .place) ≡ 32
-  -- the filled log is one, and neither run is held up
-  pub filled : FilledIn unread eventFilled
-  pub free : HeldUp SlotName.A (after twoEwaits unread 5) → ⊥
   -- the first ewait ends after 64 clocks, and with the reading at once
   pub first : (goneAt (unread .clocks) (after twoEwaits unread 2 .place) ≡ 64) × (goneAt (eventFilled .clocks) (after twoEwaits eventFilled 2 .place) ≡ 0)
   -- so the second takes none before and 64 now, and ends where it did
   pub second : (goneAt (unread .clocks) (after twoEwaits unread 3 .place) ≡ 64) × (goneAt (eventFilled .clocks) (after twoEwaits eventFilled 3 .place) ≡ 64)
+  -- neither run has an unfinished wait in the end, and both left the same state
+  pub finished : Unfinished SlotName.A (after twoEwaits unread 5) → ⊥
+  pub same-state : after twoEwaits eventFilled 5 .state ≡ after twoEwaits unread 5 .state

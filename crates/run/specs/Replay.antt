@@ -2,7 +2,7 @@
 use Prim.Native.Nat.{ℕ, suc, _+_, _*_}
 use mathlib.Core.Path.{_≡_}
 use mathlib.Core.Bool.{true, cond, not}
-use mathlib.Core.List.{List, [], _∷_, _++_}
+use mathlib.Core.List.{List, [], _∷_, _++_, IsPrefix}
 use lib.ListN.{length, take, drop}
 use lib.Dec.{leb}
 use Rattle.families.specs.Family.{codeSize}
@@ -11,7 +11,7 @@ use Rattle.refusals.specs.declared.refusals.Unreadable.{Unreadable}
 use Rattle.refusals.specs.declared.refusals.Unreplayable.{Unreplayable}
 use Rattle.waits.specs.Left.{leftOf}
 use Rattle.log.specs.Log.{Log}
-use Rattle.log.specs.Validity.{validLog}
+use Rattle.log.specs.Validity.{validLog, logStart}
 use Rattle.flags.specs.Flags.{flagsWord0, flagsWord1}
 use Rattle.flags.specs.declared.flags.Flags.{Flags}
 use Rattle.state.specs.declared.slots.Mode.{Mode}
@@ -156,11 +156,11 @@ module _ (x : Scene) (slot : Slot) (flags : Flags) where
     pub stops : last .slot .mode ≡ Mode.Running
         → (why : Unreadable)
         × ((name : SlotName) (s : State) → Holds x slot flags name s → nextStep name (x .log) (fullRun name (x .log) s) .effect ≡ Effect.Stopped why)
-    -- the entries that it filled are those that the run under a log that says more begins with, whatever it is lent (02, ticket 12)
-    pub begins : (log′ : Log) → validLog log′ ≡ true → SaysMore (x .log) log′ → (lent : List ℕ)
-        → take (2 * last .writes) (writtenInto lent (fullSlotRun (withLog x log′) slot flags .writes)) ≡ take (2 * last .writes) new
+    -- the entries that it filled are the beginning of those that the run under a log that says more fills (02, ticket 12)
+    pub keeps-writes : (log′ : Log) → validLog log′ ≡ true → SaysMore (x .log) log′
+        → IsPrefix (take (2 * last .writes) new) (entriesOf (fullSlotRun (withLog x log′) slot flags .writes))
     -- the clock law: the log's total is what waits spent, what ewaits passed by and what is left
-    pub clocked : leftOf (x .log .clocks) (record { row = 0; used = 0 }) ≡ last .waited + last .searched + leftOf (x .log .clocks) (last .place)
+    pub clocked : leftOf (x .log .clocks) logStart ≡ last .waited + last .searched + leftOf (x .log .clocks) (last .place)
 
   -- a refusal ends no run
   abbrev pub EndsRight : List ℕ → List ℕ → RunAnswer → Type 0

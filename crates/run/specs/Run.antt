@@ -2,6 +2,7 @@
 use Prim.Native.Nat.{ℕ, zero, suc, _+_}
 use mathlib.Core.List.{List, [], _∷_, _++_}
 use Rattle.log.specs.Log.{Log}
+use Rattle.log.specs.Validity.{logStart}
 use Rattle.log.specs.declared.place.Place.{Place}
 use Rattle.machine.specs.Step.{stepOf}
 use Rattle.state.specs.declared.slots.SlotName.{SlotName}
@@ -23,9 +24,9 @@ pub record Run : Type 0 where
   pub waits : ℕ
   pub ewaits : ℕ
 
--- the first step gets the start, and row 0, 0 used
+-- the first step gets the start, and the log's
 abbrev pub begun : State → Run
-begun s = record { state = s; place = record { row = 0; used = 0 }; writes = []; count = 0; waits = 0; ewaits = 0 }
+begun s = record { state = s; place = logStart; writes = []; count = 0; waits = 0; ewaits = 0 }
 
 abbrev pub wroteBy : Effect → List Write
 wroteBy (Effect.Refused why) = []

@@ -6,6 +6,7 @@ use mathlib.Core.List.{List, [], _++_}
 use Rattle.families.specs.Family.{knownFamily}
 use Rattle.isa.specs.declared.reader.Decoded.{Decoded}
 use Rattle.log.specs.Log.{Log}
+use Rattle.log.specs.Validity.{logStart}
 use Rattle.log.specs.declared.place.Place.{Place}
 use Rattle.fetch.specs.Fetch.{fetchOf}
 use Rattle.flags.specs.declared.flags.Flags.{Flags}
@@ -48,9 +49,9 @@ pub record SlotRun : Type 0 where
   pub waits : ℕ
   pub ewaits : ℕ
 
--- before the first turn: row 0, 0 used
+-- before the first turn, at the log's start
 abbrev pub slotBegun : Slot → Flags → SlotRun
-slotBegun slot flags = record { slot = slot; flags = flags; place = record { row = 0; used = 0 }; writes = []; count = 0; waits = 0; ewaits = 0 }
+slotBegun slot flags = record { slot = slot; flags = flags; place = logStart; writes = []; count = 0; waits = 0; ewaits = 0 }
 
 -- with one more turn noted
 abbrev pub tookTurn : SlotRun → Turn → SlotRun

@@ -19,7 +19,7 @@ use Rattle.turn.specs.declared.turn.Effect.{Effect}
 use Rattle.script.specs.Input.{listedIn, scriptFits, inputFits}
 use Rattle.run.specs.Run.{Run, Write, begun, nextStep, runFor}
 use Rattle.run.specs.SlotRun.{sceneFor, slotRunOf, Holds}
-use Rattle.run.specs.MoreLog.{RowsAdded, ReadingsFilled}
+use Rattle.run.specs.MoreLog.{Unfinished, RowsAdded, ReadingsFilled}
 use Rattle.run.specs.Replay.{maxEntries, fullSlotRun, fullRun, progressOf, endingOf, toldOf, slotAtEntry, replayOf}
 use Rattle.verdict.specs.Start.{Start, MasksInType}
 use Rattle.refusals.specs.declared.refusals.Fault.{Fault}
@@ -75,7 +75,7 @@ module _ (family : ℕ) (code marks : List ℕ) (entry : ℕ) (ranges : List ℕ
 
     -- in a wait with the log used up
     pub record InWait (log : Log) (r : Run) : Type 0 where
-      pub waits : slotOf (r .state) name .mode ≡ Mode.Waiting
+      pub waits : Unfinished name r
       pub row : r .place .row ≡ length (log .clocks)
       pub used : r .place .used ≡ 0
 

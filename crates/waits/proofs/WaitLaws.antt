@@ -52,13 +52,13 @@ wait-elim clocks P at-end inside onward row used n = by (length clocks - row) ro
               rw (wait-on clocks row used n h k) (onward row used n (waitFrom clocks (row + 1) 0 (n - rest)) h k later)
         ]
 
--- a wait is cut by no more than its length
-pub wait-within : (clocks : List ℕ) (p : Place) (n : ℕ) → waitOf clocks p n .cut ≤ n
-wait-within clocks p n =
-    wait-elim clocks (λ row used n w. w .cut ≤ n)
-    (λ row used n h. omega arith)
-    (λ row used n h l. omega arith)
-    (λ row used n w h l k. omega arith)
+-- the log's end cuts off of a wait what is more than was left
+pub wait-cut : (clocks : List ℕ) (p : Place) (n : ℕ) → waitOf clocks p n .cut ≡ n - leftOf clocks p
+wait-cut clocks p n =
+    wait-elim clocks (λ row used n w. w .cut ≡ n - leftFrom clocks row used)
+    (λ row used n h. omega (arith, left-end clocks row used h))
+    (λ row used n h l. omega (arith, left-on clocks row used h))
+    (λ row used n w h l k. omega (arith, left-on clocks row used h))
     (p .row) (p .used) n
 
 -- what it spent and what is left are what was left before
@@ -92,4 +92,4 @@ wait-valid log valid p n v =
 
 -- all that a wait promises
 pub waits : (clocks : List ℕ) (p : Place) (n : ℕ) (answer : Waited) → answer ≡ waitOf clocks p n → Waits clocks p n answer
-waits clocks p n answer e = record { answered = e; within = rw e (wait-within clocks p n); spent = rw e (wait-spent clocks p n) }
+waits clocks p n answer e = record { answered = e; within = rw e (omega (arith, wait-cut clocks p n)); spent = rw e (wait-spent clocks p n) }
