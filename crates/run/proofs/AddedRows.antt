@@ -19,7 +19,7 @@ use Rattle.ewaits.specs.declared.ewait.Released.{Released}
 use Rattle.ewaits.proofs.EwaitLaws.{ReleasedWithin, readsAt, search-here, search-next, search-elim, ewait-valid, valid-search}
 use Rattle.run.specs.SlotRun.{Scene}
 use Rattle.run.specs.MoreLog.{withRows}
-use Rattle.run.proofs.Beside.{ReleasedToo, LogsBeside}
+use Rattle.run.proofs.TwoLogs.{ReleasedToo, LogsBeside}
 
 module _ (log more : Log) (valid : validLog log ≡ true) (valid′ : validLog (withRows log more) ≡ true) where
   abbrev clocks′ : List ℕ

@@ -21,7 +21,7 @@ use Rattle.ewaits.proofs.EwaitLaws.{FoundBy, EndsAt, EndsFrom, ReleasedWithin, 
 use Rattle.ewaits.proofs.EwaitLaws.{ewait-on-reading, ewait-spent, ewait-valid, valid-search}
 use Rattle.run.specs.SlotRun.{Scene}
 use Rattle.run.specs.MoreLog.{FilledIn}
-use Rattle.run.proofs.Beside.{ReleasedToo, LogsBeside}
+use Rattle.run.proofs.TwoLogs.{ReleasedToo, LogsBeside}
 
 module _ (clocks : List ℕ) where
   -- two places of one log, of which the second has no less left

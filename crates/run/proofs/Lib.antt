@@ -1,6 +1,6 @@
 pub mod SlotRuns
 pub mod InState
-pub mod Beside
+pub mod TwoLogs
 pub mod AddedRows
 pub mod FilledReadings
 pub mod MoreLog

@@ -25,7 +25,7 @@ use Rattle.run.specs.SlotRun.{Scene, withLog, SlotRun, slotBegun, slotRu
 use Rattle.run.specs.MoreLog.{withRows, FilledIn, SaysMore, KeepsWrites, NoLater, Unfinished, AddsOnly, KeepsUp, RowsAdded, ReadingsFilled}
 use Rattle.run.proofs.SlotRuns.{slot-clocks}
 use Rattle.run.proofs.InState.{run-in-state, begun-in-state}
-use Rattle.run.proofs.Beside.{RunsBeside, slots-beside, kept-writes}
+use Rattle.run.proofs.TwoLogs.{RunsBeside, slots-beside, kept-writes}
 use Rattle.run.proofs.AddedRows.{SamePlace, added-left, added-logs}
 use Rattle.run.proofs.FilledReadings.{NoLess, filled-logs}
 

@@ -117,7 +117,7 @@ module _ (x : Scene) (log′ : Log) (PlacesBeside : Place → Place → Type 0) 
     abbrev x′ : Scene
     x′ = withLog x log′
 
-    -- runs that are level, with one more turn each
+    -- runs that have done the same, with one more turn each
     took-beside : (r r′ : SlotRun) (t t′ : Turn) → r′ .writes ≡ r .writes → r′ .count ≡ r .count → r′ .waits ≡ r .waits → TurnsBeside t t′
         → RunsBeside (tookTurn r t) (tookTurn r′ t′)
     took-beside r r′ t t′ writes count waits (TurnsBeside.both a b c d near) =
