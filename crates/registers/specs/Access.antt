@@ -4,13 +4,10 @@ use mathlib.Core.Bool.{Bool, false, cond, not, _&&_, _||_}
 use lib.Dec.{eqb}
 use lib.ListN.{replicate}
 use Rattle.families.specs.Family.{knownFamily}
-use Rattle.isa.specs.declared.addresses.CodeAddress.{CodeAddress}
 use Rattle.isa.specs.declared.addresses.MmioAddress.{MmioAddress}
 use Rattle.flags.specs.Flags.{flagsWord0, flagsWord1, flagsFromWords}
-use Rattle.state.specs.Slot.{withSlot}
+use Rattle.state.specs.Slot.{blankSlot, withSlot}
 use Rattle.flags.specs.declared.flags.Flags.{Flags}
-use Rattle.state.specs.declared.slots.Mode.{Mode}
-use Rattle.state.specs.declared.slots.Slot.{Slot}
 use Rattle.state.specs.declared.slots.SlotName.{SlotName}
 use Rattle.state.specs.declared.state.State.{State}
 use Rattle.registers.specs.Code.{afterUpload, codeWord}
@@ -32,10 +29,7 @@ done s = record { state = s; outcome = Outcome.Done }
 abbrev pub refused : State → Inaccessible → Access
 refused s why = record { state = s; outcome = Outcome.Refused why }
 
--- every register, IP, ADDR and DATA 0, nothing uploaded, both slots idle
-abbrev pub blankSlot : Slot
-blankSlot = record { mode = Mode.Idle; ip = record { 0 = 0 }; addr = record { 0 = 0 }; «data» = 0 }
-
+-- every register 0, nothing uploaded, both slots blank
 unfoldable pub blankState : ℕ → State
 blankState family = record {
   family = family;

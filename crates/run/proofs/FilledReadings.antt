@@ -70,15 +70,14 @@ module _ (x : Scene) (log′ : Log) (valid : validLog (x .log) ≡ true) (valid�
   inside-too : (p : Place) → validPlace (x .log .clocks) p ≡ true → validPlace (log′ .clocks) p ≡ true
   inside-too p v = subst (λ (c : List ℕ). validPlace c p ≡ true) (sym (filled .clocks)) v
 
-  -- what the first log reads, the second reads
-  reads-too : (row event value : ℕ) → (event < 32) × (bitOf (getD (x .log .known) row 0) event ≡ 1) × (bitOf (getD (x .log .values) row 0) event ≡ value)
-      → readsAt log′ event value row ≡ true
+  -- a row that releases under the first log has the reading under the second
+  reads-too : (q : Place) (n event value : ℕ) → OnReading (x .log) event value (Released.At q n) → readsAt log′ event value (q .row) ≡ true
   unfolding hasReading
-  reads-too row event value o =
+  reads-too q n event value o =
       rw (
         lt-ltb event 32 (o .0),
-        eq-eqb (bitOf (getD (log′ .known) row 0) event) 1 (filled .known row event (o .1)),
-        eq-eqb (bitOf (getD (log′ .values) row 0) event) value (sym (filled .values event row (o .1)) ∙ o .2),
+        eq-eqb (bitOf (getD (log′ .known) (q .row) 0) event) 1 (filled .known (q .row) event (o .1)),
+        eq-eqb (bitOf (getD (log′ .values) (q .row) 0) event) value (sym (filled .values event (q .row) (o .1)) ∙ o .2),
       )
       refl
 
@@ -123,7 +122,7 @@ module _ (x : Scene) (log′ : Log) (valid : validLog (x .log) ≡ true) (valid�
     released-too (Released.End n) r′ one two = tt
     released-too (Released.At q n) r′ one two =
         let order = row-order clocks p p′ near (omega (arith, one .ends .from, one .ends .inside)) in
-        by r′ two (two .finds (q .row) (one .ends .inside) (reads-too (q .row) event value (one .reads)) (omega (arith, one .ends .from)))
+        by r′ two (two .finds (q .row) (one .ends .inside) (reads-too q n event value (one .reads)) (omega (arith, one .ends .from)))
       where
         by : (r′ : Released) → SearchedToo r′ → FoundBy (q .row) r′ → ReleasedToo x log′ (NoLess clocks) (Released.At q n) r′
         by (Released.At q′ n′) two found = record {

@@ -1,7 +1,6 @@
 -- A script that fits is held by a state: its arrays of 512 bytes, filled up with 0, are fetched as the script is. Assumes nothing.
 use Prim.Native.Nat.{ℕ, _-_, _≤_, _<_}
 use mathlib.Core.Path.{_≡_, refl, ap, _∙_}
-use mathlib.Core.Bool.{false}
 use mathlib.Core.List.{List, _++_}
 use native.Mathlib.Omega.{arith}
 use lib.Dec.{eqb}
@@ -10,13 +9,11 @@ use Rattle.families.specs.Family.{codeSize}
 use Rattle.fetch.proofs.FetchLaws.{same-fetch}
 use Rattle.fetch.proofs.Places.{size-small}
 use Rattle.flags.specs.declared.flags.Flags.{Flags}
-use Rattle.state.specs.declared.slots.Mode.{Mode}
 use Rattle.state.specs.declared.slots.Slot.{Slot}
 use Rattle.state.specs.declared.slots.SlotName.{SlotName}
-use Rattle.state.specs.declared.state.State.{State}
 use Rattle.state.proofs.SlotLaws.{has-a}
 use Rattle.script.proofs.Scripts.{Fits, fits-script}
-use Rattle.run.specs.SlotRun.{Scene, Holds}
+use Rattle.run.specs.SlotRun.{Scene, sceneFor, stateWith, Holds}
 use Rattle.run.specs.Replay.{IsHeld}
 
 abbrev pub filled : List ℕ → List ℕ
@@ -28,20 +25,9 @@ filled-size l h = length-append l (replicate (512 - length l) 0) ∙ omega (arit
 filled-at : (l : List ℕ) (i : ℕ) → i < length l → getD (filled l) i 0 ≡ getD l i 0
 filled-at l i h = List·getD-append l (replicate (512 - length l) 0) 0 i h
 
--- slot A is this slot, all else is fresh
-abbrev pub stateWith : Scene → Slot → Flags → State
-stateWith x slot flags = record {
-  family = x .family;
-  code = filled (x .code);
-  marks = filled (x .marks);
-  flags = flags;
-  enable = x .enable;
-  «override_mode» = false;
-  entries = 0;
-  «entries_high» = 0;
-  a = slot;
-  b = record { mode = Mode.Idle; ip = record { 0 = 0 }; addr = record { 0 = 0 }; «data» = 0 };
-}
+-- a scene with arrays as a state has them
+abbrev pub filledScene : Scene → Scene
+filledScene x = sceneFor (x .family) (filled (x .code)) (filled (x .marks)) (x .enable) (x .log)
 
 module _ (x : Scene) {entry : ℕ} (fit : Fits (x .family) (x .code) (x .marks) entry) where
   -- the script lies at the front of the arrays
@@ -51,7 +37,7 @@ module _ (x : Scene) {entry : ℕ} (fit : Fits (x .family) (x .code) (x .marks) 
   pub filled-code : (i : ℕ) → i < codeSize (x .family) → getD (filled (x .code)) i 0 ≡ getD (x .code) i 0
   filled-code i h = filled-at (x .code) i (omega (arith, fit .code-size))
 
-  pub state-holds : (slot : Slot) (flags : Flags) → Holds x slot flags SlotName.A (stateWith x slot flags)
+  pub state-holds : (slot : Slot) (flags : Flags) → Holds x slot flags SlotName.A (stateWith (filledScene x) slot flags)
   state-holds slot flags =
       let small = size-small (x .family) in
       record {
@@ -73,7 +59,7 @@ pub is-held : (x : Scene) (slot : Slot) (flags : Flags) → IsHeld x slot flags
 is-held x slot flags fits =
     let fit = fits-script (x .family) (x .code) (x .marks) (slot .ip .0) fits in
     let small = size-small (x .family) in (
-      stateWith x slot flags,
+      stateWith (filledScene x) slot flags,
       filled-size (x .code) (omega (arith, fit .code-size)),
       filled-size (x .marks) (omega (arith, fit .marks-size)),
       state-holds x fit slot flags,

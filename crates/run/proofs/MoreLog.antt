@@ -1,5 +1,5 @@
 -- More log, never fewer writes: of a slot's run, and of any state's. Assumes nothing.
-use Prim.Native.Nat.{ℕ, zero, suc, _+_}
+use Prim.Native.Nat.{ℕ, zero, suc}
 use mathlib.Core.Path.{_≡_, refl, sym, ap, subst, _∙_}
 use mathlib.Core.Logic.{inl, inr}
 use mathlib.Core.Bool.{Bool, true, false, _&&_, true≢false}
@@ -23,15 +23,11 @@ use Rattle.machine.specs.declared.steps.Stepped.{Stepped}
 use Rattle.run.specs.Run.{noted, begun, runFor}
 use Rattle.run.specs.SlotRun.{Scene, withLog, SlotRun, slotBegun, slotRunFor, sceneOf, inState}
 use Rattle.run.specs.MoreLog.{withRows, FilledIn, SaysMore, KeepsWrites, NoLater, Unfinished, AddsOnly, KeepsUp, RowsAdded, ReadingsFilled}
-use Rattle.run.proofs.SlotRuns.{slot-clocks}
+use Rattle.run.proofs.SlotRuns.{Clocked, slot-clocks}
 use Rattle.run.proofs.InState.{run-in-state, begun-in-state}
 use Rattle.run.proofs.TwoLogs.{RunsBeside, slots-beside, kept-writes}
 use Rattle.run.proofs.AddedRows.{SamePlace, added-left, added-logs}
 use Rattle.run.proofs.FilledReadings.{NoLess, filled-logs}
-
--- the clock law
-abbrev Clocked : List ℕ → SlotRun → Type 0
-Clocked clocks r = leftOf clocks logStart ≡ r .waits + r .ewaits + leftOf clocks (r .place)
 
 -- ---- of a slot's run
 

@@ -2,6 +2,7 @@
 use Prim.Native.Nat.{ℕ, zero, suc, _+_}
 use mathlib.Core.Path.{_≡_, refl}
 use mathlib.Core.Bool.{true}
+use mathlib.Core.List.{List}
 use native.Mathlib.Nat.{zero-add, suc-add}
 use native.Mathlib.Omega.{arith}
 use Rattle.isa.proofs.Tests.{cond-elim}
@@ -17,6 +18,10 @@ use Rattle.turn.specs.declared.turn.Effect.{Effect}
 use Rattle.turn.specs.declared.turn.Turn.{Turn}
 use Rattle.turn.proofs.TurnLaws.{turn-clocks, turn-place}
 use Rattle.run.specs.SlotRun.{Scene, fetchIn, SlotRun, slotBegun, tookTurn, turnFrom, nextTurn, slotRunFor, SameScene}
+
+-- the clock law: a log's total is what waits spent, what ewaits passed by and what is left, after any number of turns
+abbrev pub Clocked : List ℕ → SlotRun → Type 0
+Clocked clocks r = leftOf clocks logStart ≡ r .waits + r .ewaits + leftOf clocks (r .place)
 
 module _ (x : Scene) where
   -- what every turn keeps, every run keeps
@@ -60,13 +65,8 @@ module _ (x : Scene) where
     pub slot-place : (slot : Slot) (flags : Flags) (n : ℕ) → InLog (slotRunFor x n (slotBegun slot flags) .place)
     slot-place slot flags n = slot-elim (λ (r : SlotRun). InLog (r .place)) next-place n (slotBegun slot flags) (valid-row-start (x .log) valid 0 (omega arith))
 
-    -- the clock law: a log's total is what waits spent, what ewaits passed by and what is left, after any number of turns
-    pub slot-clocks : (slot : Slot) (flags : Flags) (n : ℕ)
-        → (let r = slotRunFor x n (slotBegun slot flags) in left logStart ≡ r .waits + r .ewaits + left (r .place))
-    slot-clocks slot flags n =
-        slot-elim (λ (r : SlotRun). left logStart ≡ r .waits + r .ewaits + left (r .place))
-        (λ r h. omega (arith, next-clocks r))
-        n (slotBegun slot flags) (omega arith)
+    pub slot-clocks : (slot : Slot) (flags : Flags) (n : ℕ) → Clocked (x .log .clocks) (slotRunFor x n (slotBegun slot flags))
+    slot-clocks slot flags n = slot-elim (Clocked (x .log .clocks)) (λ r h. omega (arith, next-clocks r)) n (slotBegun slot flags) (omega arith)
       where
         next-clocks : (r : SlotRun) → left (r .place) ≡ nextTurn x r .waited + nextTurn x r .searched + left (nextTurn x r .place)
         next-clocks r =

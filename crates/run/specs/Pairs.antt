@@ -1,36 +1,22 @@
 -- Worked pairs of runs (02, ticket 12), by computation: a log, one that says more, and what both runs came to.
 use Prim.Native.Nat.{ℕ, _-_}
 use mathlib.Core.Path.{_≡_}
-use mathlib.Core.Bool.{true, false}
+use mathlib.Core.Bool.{true}
 use mathlib.Core.List.{List, [], _∷_, _++_}
 use lib.ListN.{length, replicate}
 use Rattle.log.specs.Log.{Log, logOf}
 use Rattle.log.specs.Validity.{validLog}
-use Rattle.state.specs.declared.slots.Mode.{Mode}
-use Rattle.state.specs.declared.slots.Slot.{Slot}
 use Rattle.state.specs.declared.slots.SlotName.{SlotName}
 use Rattle.state.specs.declared.state.State.{State}
 use Rattle.run.specs.Run.{Run, Write, begun, runFor}
+use Rattle.run.specs.SlotRun.{sceneFor, slotAtEntry, stateWith}
 use Rattle.run.specs.MoreLog.{withRows, SaysMore, goneAt, Unfinished}
 
--- at place 0, ADDR and DATA 0
-abbrev pub slotIn : Mode → Slot
-slotIn mode = record { mode = mode; ip = record { 0 = 0 }; addr = record { 0 = 0 }; «data» = 0 }
-
--- family 2, these bytes from place 0 on and all uploaded, HWSQ_ENABLE 1, slot A running from there
+-- family 2, these bytes from place 0 on and all uploaded, HWSQ_ENABLE 1, slot A running from there; the log is the steps' own
 abbrev pub holding : List ℕ → State
-holding bytes = record {
-  family = 2;
-  code = bytes ++ replicate (128 - length bytes) 0;
-  marks = replicate 128 1;
-  flags = record { values = 0; enables = 0 };
-  enable = true;
-  «override_mode» = false;
-  entries = 0;
-  «entries_high» = 0;
-  a = slotIn Mode.Running;
-  b = slotIn Mode.Idle;
-}
+holding bytes =
+    let x = sceneFor 2 (bytes ++ replicate (128 - length bytes) 0) (replicate 128 1) true (logOf [] [] []) in
+    stateWith x (slotAtEntry 0 0 0) (record { values = 0; enables = 0 })
 
 -- so many steps of slot A under a log
 abbrev pub after : List ℕ → Log → ℕ → Run

@@ -104,10 +104,6 @@ entriesOf (w ∷ writes) = w .address ∷ w .word ∷ entriesOf writes
 abbrev pub writtenInto : List ℕ → List Write → List ℕ
 writtenInto lent writes = entriesOf writes ++ drop (2 * length writes) lent
 
--- a slot that runs from the entry, with this ADDR and DATA
-abbrev pub slotAtEntry : ℕ → ℕ → ℕ → Slot
-slotAtEntry entry addr word = record { mode = Mode.Running; ip = record { 0 = entry }; addr = record { 0 = addr }; «data» = word }
-
 -- a scene, and the slot and the flags that a run begins with
 module _ (x : Scene) (slot : Slot) (flags : Flags) where
   -- the script does not fit, fewer than 340 entries are lent, the columns are no log: tested in this order; then how far the run came

@@ -1,7 +1,7 @@
 -- One slot's run: what its turns read, what they change, and what they did (01, "Demand 3's words").
 use Prim.Native.Nat.{ℕ, zero, suc, _+_}
 use mathlib.Core.Path.{_≡_}
-use mathlib.Core.Bool.{Bool, true, cond}
+use mathlib.Core.Bool.{Bool, true, false, cond}
 use mathlib.Core.List.{List, [], _++_}
 use Rattle.families.specs.Family.{knownFamily}
 use Rattle.isa.specs.declared.reader.Decoded.{Decoded}
@@ -10,7 +10,8 @@ use Rattle.log.specs.Validity.{logStart}
 use Rattle.log.specs.declared.place.Place.{Place}
 use Rattle.fetch.specs.Fetch.{fetchOf}
 use Rattle.flags.specs.declared.flags.Flags.{Flags}
-use Rattle.state.specs.Slot.{hasSlot, isRunning, slotOf, withSlot}
+use Rattle.state.specs.Slot.{hasSlot, isRunning, blankSlot, slotOf, withSlot}
+use Rattle.state.specs.declared.slots.Mode.{Mode}
 use Rattle.state.specs.declared.slots.Slot.{Slot}
 use Rattle.state.specs.declared.slots.SlotName.{SlotName}
 use Rattle.state.specs.declared.state.State.{State}
@@ -86,11 +87,30 @@ pub record SameScene (x y : Scene) : Type 0 where
   pub log : x .log ≡ y .log
   pub fetches : (at : ℕ) → fetchIn x at ≡ fetchIn y at
 
+-- a slot that runs from the entry, with this ADDR and DATA
+abbrev pub slotAtEntry : ℕ → ℕ → ℕ → Slot
+slotAtEntry entry addr word = record { mode = Mode.Running; ip = record { 0 = entry }; addr = record { 0 = addr }; «data» = word }
+
 -- ---- in a state
 
 -- what any slot's turns read of a state
 abbrev pub sceneOf : State → Log → Scene
 sceneOf s log = sceneFor (s .family) (s .code) (s .marks) (s .enable) log
+
+-- a state of the scene whose slot A is this one; all that the scene has no word for is as in a fresh state
+abbrev pub stateWith : Scene → Slot → Flags → State
+stateWith x slot flags = record {
+  family = x .family;
+  code = x .code;
+  marks = x .marks;
+  flags = flags;
+  enable = x .enable;
+  «override_mode» = false;
+  entries = 0;
+  «entries_high» = 0;
+  a = slot;
+  b = blankSlot;
+}
 
 -- the run of a slot, put into the state in which it began: all else of the state stays
 abbrev pub inState : State → SlotName → SlotRun → Run

@@ -32,6 +32,10 @@ isIdle Mode.Waiting = false
 isIdle Mode.Blocked = false
 isIdle Mode.Hung = false
 
+-- a slot of a fresh state: idle, IP, ADDR and DATA 0
+abbrev pub blankSlot : Slot
+blankSlot = record { mode = Mode.Idle; ip = record { 0 = 0 }; addr = record { 0 = 0 }; «data» = 0 }
+
 abbrev pub slotOf : State → SlotName → Slot
 slotOf s SlotName.A = s .a
 slotOf s SlotName.B = s .b

@@ -15,8 +15,8 @@ use Rattle.state.specs.declared.slots.SlotName.{SlotName}
 use Rattle.state.specs.declared.state.State.{State}
 use Rattle.time.specs.Time.{elapsedOf}
 use Rattle.turn.specs.Turn.{modeAfter}
-use Rattle.run.specs.SlotRun.{Scene, SlotRun, slotRunFor, slotRunOf, Holds}
-use Rattle.run.specs.Replay.{fullSteps, fullSlotRun, fullRun, endingOf, slotAtEntry}
+use Rattle.run.specs.SlotRun.{Scene, SlotRun, slotRunFor, slotAtEntry, slotRunOf, Holds}
+use Rattle.run.specs.Replay.{fullSteps, fullSlotRun, fullRun, endingOf}
 use Rattle.run.proofs.InState.{run-back, full-follows}
 use Rattle.script.proofs.Scripts.{Script, Reads}
 use Rattle.verdict.specs.Auditor.{knowNothing}

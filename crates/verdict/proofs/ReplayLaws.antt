@@ -8,8 +8,8 @@ use Rattle.flags.specs.Flags.{flagsWord0, flagsWord1, flagsFromWords}
 use Rattle.state.specs.Slot.{slotOf}
 use Rattle.flags.specs.declared.flags.Flags.{Flags}
 use Rattle.script.specs.Input.{scriptFits}
-use Rattle.run.specs.SlotRun.{SlotRun, slotRunOf}
-use Rattle.run.specs.Replay.{maxEntries, toldOf, progressOf, fullSlotRun, slotAtEntry, runAnswerOf}
+use Rattle.run.specs.SlotRun.{SlotRun, slotAtEntry, slotRunOf}
+use Rattle.run.specs.Replay.{maxEntries, toldOf, progressOf, fullSlotRun, runAnswerOf}
 use Rattle.run.proofs.InState.{run-back, full-follows}
 use Rattle.verdict.specs.Demand3.{ReplayTellsAll}
 use Rattle.run.specs.declared.answers.ReplayAnswer.{ReplayAnswer}

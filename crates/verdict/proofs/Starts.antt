@@ -24,9 +24,8 @@ use Rattle.machine.specs.declared.steps.Stepped.{Stepped}
 use Rattle.run.specs.Run.{begun, nextStep, runFor}
 use Rattle.verdict.specs.Start.{InType, Start}
 use Rattle.script.proofs.Scripts.{Script, Fits, Auditable}
-use Rattle.run.specs.SlotRun.{slotBegun, nextTurn, slotRunFor, slotRunOf, Holds}
-use Rattle.run.specs.Replay.{slotAtEntry}
-use Rattle.run.proofs.Held.{filled-size, stateWith, filled-marks, filled-code}
+use Rattle.run.specs.SlotRun.{slotBegun, nextTurn, slotRunFor, slotAtEntry, stateWith, slotRunOf, Holds}
+use Rattle.run.proofs.Held.{filled-size, filledScene, filled-marks, filled-code}
 use Rattle.run.proofs.InState.{run-back, follows, next-follows}
 use Rattle.verdict.proofs.Going.{sceneUnder}
 use Rattle.verdict.proofs.Agreement.{Agree}
@@ -89,7 +88,7 @@ plain-bytes (m ∷ marks) p (suc i) = plain-bytes marks (both-right (leb m 1) (m
 
 -- slot A runs the script with this ADDR and DATA, all else is fresh
 abbrev pub someState : Script → ℕ → ℕ → ℕ → State
-someState x entry addr word = stateWith (sceneUnder x (logOf [] [] [])) (slotAtEntry entry addr word) (record { values = 0; enables = 0 })
+someState x entry addr word = stateWith (filledScene (sceneUnder x (logOf [] [] []))) (slotAtEntry entry addr word) (record { values = 0; enables = 0 })
 
 module _ (x : Script) (entry : ℕ) (fit : Auditable x entry) (addr word : ℕ) (small-addr : addr < 2 ^ 32) (small-word : word < 2 ^ 32) where
   some-in-type : InType (someState x entry addr word)

@@ -9,8 +9,8 @@ use Rattle.log.specs.Log.{logOf}
 use Rattle.flags.specs.Flags.{flagsFromWords}
 use Rattle.refusals.specs.Number.{faultNumber}
 use Rattle.refusals.specs.declared.refusals.Fault.{Fault}
-use Rattle.run.specs.SlotRun.{sceneFor}
-use Rattle.run.specs.Replay.{maxEntries, slotAtEntry, replayOf}
+use Rattle.run.specs.SlotRun.{sceneFor, slotAtEntry}
+use Rattle.run.specs.Replay.{maxEntries, replayOf}
 use Rattle.run.specs.declared.answers.Ending.{Ending}
 use Rattle.run.specs.declared.answers.ReplayAnswer.{ReplayAnswer}
 use Rattle.verdict.specs.Auditor.{auditOf}

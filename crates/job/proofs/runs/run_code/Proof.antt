@@ -10,7 +10,10 @@ abbrev sized : tie.After-run-arg → tie.After-code-size
 sized c = c .before
 
 abbrev entered : tie.After-run-arg → tie.Start
-entered c = let columns = sized c .before .before in columns .before .before .before .before .before
+entered c =
+    let values = sized c .before .before in
+    let clocks = values .before .before in
+    clocks .before .before .before
 
 slice-aggregate-run : tie.Need-slice-aggregate-run
 slice-aggregate-run c = part-length _ _ (omega (arith, sized c .code-size .ensures, entered c .pre .0 .0))

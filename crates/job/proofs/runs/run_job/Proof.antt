@@ -13,7 +13,7 @@ abbrev found : tie.After-run-code-arg → tie.After-slot-of
 found c = c .before .before .before
 
 abbrev entered : tie.After-run-code-arg → tie.Start
-entered c = let slot = found c in slot .before .before .before .before
+entered c = let executing = found c .before in executing .before .before .before
 
 -- from where the last of the arguments was made
 abbrev first : tie.After-run-code-arg11 → tie.After-run-code-arg

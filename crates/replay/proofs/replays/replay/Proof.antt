@@ -9,8 +9,8 @@ use Rattle.log.specs.Log.{logOf}
 use Rattle.flags.specs.Flags.{flagsFromWords}
 use Rattle.flags.specs.declared.flags.Flags.{Flags}
 use Rattle.state.specs.declared.slots.Slot.{Slot}
-use Rattle.run.specs.SlotRun.{Scene, sceneFor}
-use Rattle.run.specs.Replay.{slotAtEntry, toldAnswer, answerNumber, RunsSlot, Replays}
+use Rattle.run.specs.SlotRun.{Scene, sceneFor, slotAtEntry}
+use Rattle.run.specs.Replay.{toldAnswer, answerNumber, RunsSlot, Replays}
 use Rattle.run.specs.declared.answers.ReplayAnswer.{ReplayAnswer}
 use Rattle.run.specs.declared.answers.RunAnswer.{RunAnswer}
 use Rattle.run.proofs.ReplayEnds.{told-number, ended-valid}
