@@ -4,10 +4,9 @@ use crate::plain;
 use crate::scripts::{ranges, Script, FAMILY};
 use crate::table::Line;
 use crate::timing;
-use compare::mirror;
+use compare::{inputs, mirror};
 use hwsq::Verdict;
 use second::audit::{Fault, Pass};
-use second::isa::CodeAddress;
 use std::hint::black_box;
 
 fn proved(script: &Script, ranges: &[u32]) -> Verdict {
@@ -15,8 +14,7 @@ fn proved(script: &Script, ranges: &[u32]) -> Verdict {
 }
 
 fn second(script: &Script, ranges: &[u32]) -> Result<Pass, Fault> {
-    let entry = CodeAddress(0);
-    second::audit::audit(FAMILY, &script.code, &script.marks, entry, ranges)
+    second::audit::audit(inputs::script(script.lent()), ranges)
 }
 
 fn plain(script: &Script, ranges: &[u32]) -> plain::Verdict {

@@ -1,12 +1,11 @@
 //! The replays: the proved one and the second program's.
 
 use crate::logs::{self, Log};
-use crate::scripts::{Script, FAMILY};
+use crate::scripts::Script;
 use crate::table::Line;
 use crate::timing;
-use compare::mirror;
+use compare::{inputs, mirror};
 use hwsq::{Replayed, Start, ENTRIES};
-use second::isa::{CodeAddress, MmioAddress};
 use second::Refusal;
 use std::hint::black_box;
 
@@ -30,18 +29,9 @@ fn second(
     writes: &mut Writes,
 ) -> Result<second::audit::Replayed, Refusal> {
     second::audit::replay(
-        FAMILY,
-        &script.code,
-        &script.marks,
-        CodeAddress(0),
-        MmioAddress(START.addr),
-        START.data,
-        START.flags_0,
-        START.flags_1,
-        START.enable,
-        &log.clocks,
-        &log.known,
-        &log.values,
+        inputs::script(script.lent()),
+        inputs::registers(START),
+        inputs::columns(log.columns()),
         writes,
     )
 }

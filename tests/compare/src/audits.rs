@@ -7,9 +7,8 @@ use crate::random::Random;
 use crate::ranges;
 use crate::show;
 use crate::shrink::Shrinker;
-use compare::mirror;
+use compare::{inputs, mirror};
 use hwsq::Verdict;
-use second::isa::CodeAddress;
 
 const SALT: u64 = 5;
 
@@ -29,9 +28,9 @@ pub struct Case {
 /// Both verdicts, the proved one first.
 fn verdicts(case: &Case) -> (Verdict, Verdict) {
     let (code, marks) = case.ram.slices();
-    let proved = hwsq::audit(case.ram.lent(&code, &marks), &case.ranges);
-    let entry = CodeAddress(case.ram.entry);
-    let second = second::audit::audit(case.ram.family, &code, &marks, entry, &case.ranges);
+    let script = case.ram.lent(&code, &marks);
+    let proved = hwsq::audit(script, &case.ranges);
+    let second = second::audit::audit(inputs::script(script), &case.ranges);
     (proved, mirror::verdict(second))
 }
 

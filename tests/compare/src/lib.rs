@@ -1,3 +1,4 @@
-//! The second program's answers in the shape of the proved ones, for whatever compares the two.
+//! What goes into both programs and what comes out, in one shape each, for whatever compares the two.
 
+pub mod inputs;
 pub mod mirror;

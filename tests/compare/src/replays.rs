@@ -9,9 +9,8 @@ use crate::random::Random;
 use crate::ranges;
 use crate::show;
 use crate::shrink::Shrinker;
-use compare::mirror;
+use compare::{inputs, mirror};
 use hwsq::{Replayed, ENTRIES};
-use second::isa::{CodeAddress, MmioAddress};
 
 const SALT: u64 = 6;
 /// What the entries hold before; neither address nor data of most writes.
@@ -44,18 +43,9 @@ fn answers(case: &Case) -> (Answer, Answer) {
     let proved = hwsq::replay(script, *start, columns.lent(), &mut entries);
     let mut others = vec![LENT; case.lent];
     let second = second::audit::replay(
-        ram.family,
-        &code,
-        &marks,
-        CodeAddress(ram.entry),
-        MmioAddress(start.addr),
-        start.data,
-        start.flags_0,
-        start.flags_1,
-        start.enable,
-        &columns.clocks,
-        &columns.known,
-        &columns.values,
+        inputs::script(script),
+        inputs::registers(*start),
+        inputs::columns(columns.lent()),
         &mut others,
     );
     ((proved, entries), (mirror::replayed(second), others))

@@ -7,6 +7,8 @@ mod replay;
 mod start;
 
 pub use auditor::{audit, Fault, Pass};
+pub use input::Script;
 pub use ranges::{listed, MOST_RANGES};
 pub use replay::{replay, run, Ending, Replayed, Run, WRITE_ENTRIES};
 pub(crate) use start::start;
+pub use start::Registers;

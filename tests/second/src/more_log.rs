@@ -1,8 +1,7 @@
 //! Pairs of runs, the second under more log: added rows, filled in readings.
 
-use crate::audit::start;
-use crate::isa::{CodeAddress, MmioAddress};
-use crate::log::{Log, Passed};
+use crate::audit::{start, Registers, Script};
+use crate::log::{Columns, Log, Passed};
 use crate::machine::{Slot, Steps};
 use crate::misreadings::{in_force, Misreading};
 use crate::Refusal;
@@ -38,33 +37,13 @@ pub fn filled_in(row: Masks, from: Masks) -> Masks {
 }
 
 /// Runs a script as replay does and tells when each wait and ewait it executed ended, in order.
-#[allow(clippy::too_many_arguments)]
 pub fn wait_ends(
-    family: u8,
-    code: &[u8],
-    marks: &[u8],
-    entry: CodeAddress,
-    addr: MmioAddress,
-    data: u32,
-    flags_0: u32,
-    flags_1: u32,
-    hwsq_enable: bool,
-    clocks: &[u64],
-    known: &[u32],
-    values: &[u32],
+    script: Script,
+    registers: Registers,
+    columns: Columns,
 ) -> Result<Vec<WaitEnd>, Refusal> {
-    let mut state = start(
-        family,
-        code,
-        marks,
-        entry,
-        addr,
-        data,
-        flags_0,
-        flags_1,
-        hwsq_enable,
-    )?;
-    let log = Log::new(clocks, known, values)?;
+    let mut state = start(script, registers)?;
+    let log = Log::new(columns)?;
     let waits = Steps::new(&mut state, Slot::A, &log).filter_map(|told| told.passed);
     Ok(waits.map(|passed| wait_end(&log, passed)).collect())
 }

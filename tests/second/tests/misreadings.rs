@@ -1,8 +1,9 @@
 //! Each misreading changes the answers that show it and no others, and only while it is in force.
 
-use second::audit::{audit, replay, Replayed, WRITE_ENTRIES};
+use second::audit::{audit, replay, Registers, Replayed, Script, WRITE_ENTRIES};
 use second::isa::{code_size, decode, encode, CodeAddress, Instruction, MmioAddress};
 use second::job::report;
+use second::log::Columns;
 use second::machine::{host_read, host_write, State};
 use second::misreadings::{misread, Misreading, ALL};
 use second::more_log::{filled_in, keeps_writes, never_later, wait_ends, Masks, WaitEnd};
@@ -135,47 +136,55 @@ const ONE_POKE: &[u8] = b"\xe2\x78\x56\x34\x12\xe0\x00\x16\x10\x00\x7f";
 /// The same with datalo abcd and addrlo 2004 before the exit.
 const SHORT_FORMS: &[u8] = b"\xe2\x78\x56\x34\x12\xe0\x00\x16\x10\x00\x42\xcd\xab\x40\x04\x20\x7f";
 
-/// The script with the rest of the code RAM 00.
-fn code_of(family: u8, script: &[u8]) -> Vec<u8> {
+/// HWSQ_ENABLE 1 and all other registers 0.
+const ENABLED: Registers = Registers {
+    addr: MmioAddress(0),
+    data: 0,
+    flags_0: 0,
+    flags_1: 0,
+    hwsq_enable: true,
+};
+
+/// The answer of a call on a script from entry 0, the rest of the code RAM 00 and all uploaded.
+fn on_script<T>(family: u8, bytes: &[u8], call: impl FnOnce(Script) -> T) -> T {
     let mut code = vec![0; code_size(family).unwrap()];
-    code[..script.len()].copy_from_slice(script);
-    code
-}
-
-/// The rows as a log's three columns.
-fn columns(rows: &[(u64, u32, u32)]) -> (Vec<u64>, Vec<u32>, Vec<u32>) {
-    let clocks = rows.iter().map(|row| row.0).collect();
-    let known = rows.iter().map(|row| row.1).collect();
-    let values = rows.iter().map(|row| row.2).collect();
-    (clocks, known, values)
-}
-
-/// A replay from entry 0 with all uploaded, HWSQ_ENABLE 1 and other registers 0.
-fn replayed(family: u8, script: &[u8], rows: &[(u64, u32, u32)]) -> (Replayed, Vec<u32>) {
-    let code = code_of(family, script);
-    let (clocks, known, values) = columns(rows);
-    let mut writes = vec![0; WRITE_ENTRIES];
-    let replayed = replay(
+    code[..bytes.len()].copy_from_slice(bytes);
+    call(Script {
         family,
-        &code,
-        &vec![1; code.len()],
-        CodeAddress(0),
-        MmioAddress(0),
-        0,
-        0,
-        0,
-        true,
-        &clocks,
-        &known,
-        &values,
-        &mut writes,
-    );
+        code: &code,
+        marks: &vec![1; code.len()],
+        entry: CodeAddress(0),
+    })
+}
+
+/// The answer of a call on such a script and a log of these rows.
+fn on_log<T>(
+    family: u8,
+    bytes: &[u8],
+    rows: &[(u64, u32, u32)],
+    call: impl FnOnce(Script, Columns) -> T,
+) -> T {
+    let clocks: Vec<u64> = rows.iter().map(|row| row.0).collect();
+    let known: Vec<u32> = rows.iter().map(|row| row.1).collect();
+    let values: Vec<u32> = rows.iter().map(|row| row.2).collect();
+    let columns = Columns {
+        clocks: &clocks,
+        known: &known,
+        values: &values,
+    };
+    on_script(family, bytes, |script| call(script, columns))
+}
+
+fn replayed(family: u8, bytes: &[u8], rows: &[(u64, u32, u32)]) -> (Replayed, Vec<u32>) {
+    let mut writes = vec![0; WRITE_ENTRIES];
+    let replayed = on_log(family, bytes, rows, |script, columns| {
+        replay(script, ENABLED, columns, &mut writes)
+    });
     (replayed.unwrap(), writes)
 }
 
-fn verdict(family: u8, script: &[u8], ranges: &[u32]) -> String {
-    let code = code_of(family, script);
-    let (number, place) = match audit(family, &code, &vec![1; code.len()], CodeAddress(0), ranges) {
+fn verdict(family: u8, bytes: &[u8], ranges: &[u32]) -> String {
+    let (number, place) = match on_script(family, bytes, |script| audit(script, ranges)) {
         Ok(pass) => (0, pass.place),
         Err(fault) => (fault.number.number(), fault.place),
     };
@@ -233,24 +242,11 @@ fn status_after_abort() -> String {
     format!("{status:08x}")
 }
 
-/// When the waits of a script ended, from the start of the other replays.
-fn ends(script: &[u8], rows: &[(u64, u32, u32)]) -> Vec<WaitEnd> {
-    let code = code_of(2, script);
-    let (clocks, known, values) = columns(rows);
-    let ends = wait_ends(
-        2,
-        &code,
-        &vec![1; code.len()],
-        CodeAddress(0),
-        MmioAddress(0),
-        0,
-        0,
-        0,
-        true,
-        &clocks,
-        &known,
-        &values,
-    );
+/// When the waits of a script of family 2 ended.
+fn ends(bytes: &[u8], rows: &[(u64, u32, u32)]) -> Vec<WaitEnd> {
+    let ends = on_log(2, bytes, rows, |script, columns| {
+        wait_ends(script, ENABLED, columns)
+    });
     ends.unwrap()
 }
 

@@ -3,8 +3,8 @@
 use crate::launch::Launch;
 use crate::log::Columns;
 use crate::registers::{CONTROL, FLAGS_0, FLAGS_1};
+use compare::inputs;
 use hwsq::{Replayed, Slot, State, Stepped, ENTRIES};
-use second::isa::{CodeAddress, MmioAddress};
 use second::more_log::{self, WaitEnd};
 use second::Refusal;
 
@@ -117,17 +117,8 @@ pub fn second_ends(launch: &Launch, log: &Columns) -> Result<Vec<WaitEnd>, Refus
     let Launch { ram, start } = launch;
     let (code, marks) = ram.slices();
     more_log::wait_ends(
-        ram.family,
-        &code,
-        &marks,
-        CodeAddress(ram.entry),
-        MmioAddress(start.addr),
-        start.data,
-        start.flags_0,
-        start.flags_1,
-        start.enable,
-        &log.clocks,
-        &log.known,
-        &log.values,
+        inputs::script(ram.lent(&code, &marks)),
+        inputs::registers(*start),
+        inputs::columns(log.lent()),
     )
 }

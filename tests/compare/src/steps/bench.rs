@@ -6,7 +6,7 @@ use crate::outcomes::Group;
 use crate::part::Tally;
 use crate::registers;
 use crate::show;
-use compare::mirror;
+use compare::{inputs, mirror};
 use hwsq::{Access, State, Stepped};
 use second::isa::{CodeAddress, MmioAddress};
 use second::log::Place;
@@ -99,15 +99,11 @@ impl Bench {
 
     fn step(&mut self, slot: u8, columns: &Columns, tally: &mut Tally) -> Option<String> {
         let from = self.place;
-        let Columns {
-            clocks,
-            known,
-            values,
-        } = columns;
-        let proved = hwsq::step(&self.proved, slot, columns.lent(), from.row, from.used);
+        let log = columns.lent();
+        let proved = hwsq::step(&self.proved, slot, log, from.row, from.used);
         count_step(&proved, slot, tally);
         let name = if slot == 0 { Slot::A } else { Slot::B };
-        let answer = machine::step(&mut self.second, name, clocks, known, values, from);
+        let answer = machine::step(&mut self.second, name, inputs::columns(log), from);
         let second = mirror::stepped(answer, from, &self.second);
         self.proved = proved.state;
         self.place = Place {

@@ -1,6 +1,6 @@
 //! Reading a script from its entry to its exit without running it.
 
-use super::input::check_script;
+use super::input::{check_script, Script};
 use super::ranges::{check_ranges, listed};
 use crate::fetch::fetch;
 use crate::isa::{self, wait_clocks, with_low_half, CodeAddress, Instruction, MmioAddress};
@@ -35,25 +35,20 @@ struct Seen {
 }
 
 /// Audits a script.
-pub fn audit(
-    family: u8,
-    code: &[u8],
-    marks: &[u8],
-    entry: CodeAddress,
-    ranges: &[u32],
-) -> Result<Pass, Fault> {
+pub fn audit(script: Script, ranges: &[u32]) -> Result<Pass, Fault> {
     let unfit = |number| Fault {
         number,
         place: CodeAddress(0),
     };
-    check_script(family, code, marks, entry).map_err(unfit)?;
+    check_script(script).map_err(unfit)?;
     check_ranges(ranges).map_err(unfit)?;
-    let pausing = isa::pauses_memory(family).map_err(unfit)?;
+    let pausing = isa::pauses_memory(script.family).map_err(unfit)?;
     let mut seen = Seen::default();
-    let mut place = entry;
+    let mut place = script.entry;
     loop {
         let fault = |number| Fault { number, place };
-        let (instruction, length) = fetch(family, code, marks, place).map_err(fault)?;
+        let fetched = fetch(script.family, script.code, script.marks, place);
+        let (instruction, length) = fetched.map_err(fault)?;
         seen.instructions += 1;
         if instruction == Instruction::Exit {
             return seen.exit(pausing, place).map_err(fault);

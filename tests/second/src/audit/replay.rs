@@ -1,8 +1,9 @@
 //! Running a script against a log until it can go no further.
 
-use super::start::start;
+use super::input::Script;
+use super::start::{start, Registers};
 use crate::isa::{CodeAddress, MmioAddress};
-use crate::log::{Log, Place};
+use crate::log::{Columns, Log, Place};
 use crate::machine::{Activity, Did, Slot, State, Steps};
 use crate::Refusal;
 
@@ -56,37 +57,17 @@ pub struct Replayed {
 }
 
 /// Replays a script in slot A from given registers; `writes` is filled with address and data in turn.
-#[allow(clippy::too_many_arguments)]
 pub fn replay(
-    family: u8,
-    code: &[u8],
-    marks: &[u8],
-    entry: CodeAddress,
-    addr: MmioAddress,
-    data: u32,
-    flags_0: u32,
-    flags_1: u32,
-    hwsq_enable: bool,
-    clocks: &[u64],
-    known: &[u32],
-    values: &[u32],
+    script: Script,
+    registers: Registers,
+    columns: Columns,
     writes: &mut [u32],
 ) -> Result<Replayed, Refusal> {
-    let mut state = start(
-        family,
-        code,
-        marks,
-        entry,
-        addr,
-        data,
-        flags_0,
-        flags_1,
-        hwsq_enable,
-    )?;
+    let mut state = start(script, registers)?;
     if writes.len() < WRITE_ENTRIES {
         return Err(Refusal::TooFewEntries);
     }
-    let log = Log::new(clocks, known, values)?;
+    let log = Log::new(columns)?;
     let run = run(&mut state, Slot::A, &log, writes);
     Ok(answer(run, &state))
 }

@@ -1,32 +1,33 @@
-//! The start of a script handed in as slices.
+//! The registers a replay starts with, and the machine at its start.
 
-use super::input::check_script;
-use crate::isa::{CodeAddress, MmioAddress};
+use super::input::{check_script, Script};
+use crate::isa::MmioAddress;
 use crate::machine::{Activity, Slot, State};
 use crate::Refusal;
 
+/// What a replay starts with: ADDR and DATA of its slot, both FLAGS registers, HWSQ_ENABLE.
+#[derive(Clone, Copy, Debug, Default)]
+pub struct Registers {
+    pub addr: MmioAddress,
+    pub data: u32,
+    pub flags_0: u32,
+    pub flags_1: u32,
+    pub hwsq_enable: bool,
+}
+
 /// The machine about to run the script in slot A from given registers, or a refusal of the script.
-#[allow(clippy::too_many_arguments)]
-pub(crate) fn start(
-    family: u8,
-    code: &[u8],
-    marks: &[u8],
-    entry: CodeAddress,
-    addr: MmioAddress,
-    data: u32,
-    flags_0: u32,
-    flags_1: u32,
-    hwsq_enable: bool,
-) -> Result<State, Refusal> {
-    check_script(family, code, marks, entry)?;
-    let mut state = State::fresh(family)?;
-    state.code[..code.len()].copy_from_slice(code);
-    state.marks[..marks.len()].copy_from_slice(marks);
-    state.set_flags(false, flags_0);
-    state.set_flags(true, flags_1);
-    state.hwsq_enable = hwsq_enable;
+pub(crate) fn start(script: Script, registers: Registers) -> Result<State, Refusal> {
+    check_script(script)?;
+    let mut state = State::fresh(script.family)?;
+    state.code[..script.code.len()].copy_from_slice(script.code);
+    state.marks[..script.marks.len()].copy_from_slice(script.marks);
+    state.set_flags(false, registers.flags_0);
+    state.set_flags(true, registers.flags_1);
+    state.hwsq_enable = registers.hwsq_enable;
     let slot = state.slot_mut(Slot::A);
-    (slot.ip, slot.addr, slot.data) = (entry, addr, data);
+    slot.ip = script.entry;
+    slot.addr = registers.addr;
+    slot.data = registers.data;
     slot.activity = Activity::Fetching;
     Ok(state)
 }

@@ -3,7 +3,7 @@
 use super::state::{Activity, Slot, State};
 use crate::fetch::fetch;
 use crate::isa::{self, wait_clocks, with_low_half, CodeAddress, Instruction, MmioAddress};
-use crate::log::{Log, Passed, Place};
+use crate::log::{Columns, Log, Passed, Place};
 use crate::misreadings::{in_force, Misreading};
 use crate::Refusal;
 
@@ -48,13 +48,11 @@ pub(crate) struct Told {
 pub fn step(
     state: &mut State,
     slot: Slot,
-    clocks: &[u64],
-    known: &[u32],
-    values: &[u32],
+    columns: Columns,
     place: Place,
 ) -> Result<Step, Refusal> {
     isa::code_size(state.family)?;
-    let log = Log::new(clocks, known, values)?;
+    let log = Log::new(columns)?;
     if !log.holds(place) {
         return Err(Refusal::UnfitLog);
     }

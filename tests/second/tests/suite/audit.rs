@@ -1,7 +1,7 @@
 //! Verdicts.
 
 use crate::common::{Script, ALL};
-use second::audit::{audit, listed, Pass};
+use second::audit::{self, audit, listed, Pass};
 use second::isa::{code_size, CodeAddress, MmioAddress};
 
 fn pass(family: u8, text: &str) -> (u32, u32, u32, u64) {
@@ -183,7 +183,13 @@ fn fault_8_looks_at_the_last_touch() {
 
 /// The verdict on plain slices.
 fn raw(family: u8, code: usize, marks: &[u8], entry: u32, ranges: &[u32]) -> (u8, u32) {
-    match audit(family, &vec![0x7f; code], marks, CodeAddress(entry), ranges) {
+    let script = audit::Script {
+        family,
+        code: &vec![0x7f; code],
+        marks,
+        entry: CodeAddress(entry),
+    };
+    match audit(script, ranges) {
         Ok(pass) => (0, pass.place.0),
         Err(fault) => (fault.number.number(), fault.place.0),
     }

@@ -1,11 +1,21 @@
 //! Helpers of the tests.
 
-use second::audit::{audit, replay, Fault, Pass, Replayed, WRITE_ENTRIES};
+use second::audit::{self, audit, replay, Fault, Pass, Registers, Replayed, WRITE_ENTRIES};
 use second::isa::{code_size, encode, CodeAddress, Instruction, MmioAddress};
+use second::log::Columns;
 use second::machine::{Activity, Slot, State};
 use second::Refusal;
 
 pub const ALL: &[u32] = &[0, u32::MAX];
+
+/// HWSQ_ENABLE 1 and all other registers 0.
+pub const ENABLED: Registers = Registers {
+    addr: MmioAddress(0),
+    data: 0,
+    flags_0: 0,
+    flags_1: 0,
+    hwsq_enable: true,
+};
 
 /// Bytes of a hex text, blanks ignored.
 pub fn hex(text: &str) -> Vec<u8> {
@@ -50,8 +60,18 @@ impl Script {
         self
     }
 
+    /// The script as the library takes it.
+    pub fn slices(&self) -> audit::Script<'_> {
+        audit::Script {
+            family: self.family,
+            code: &self.code,
+            marks: &self.marks,
+            entry: self.entry,
+        }
+    }
+
     pub fn audit(&self, ranges: &[u32]) -> Result<Pass, Fault> {
-        audit(self.family, &self.code, &self.marks, self.entry, ranges)
+        audit(self.slices(), ranges)
     }
 
     /// The verdict as a number and a place.
@@ -76,46 +96,18 @@ impl Script {
     /// Replays with HWSQ_ENABLE 1 and all other registers 0.
     pub fn replay(&self, log: &Rows) -> (Replayed, Vec<u32>) {
         let mut writes = vec![0xdead_beef; WRITE_ENTRIES + 3];
-        let start = Start {
-            hwsq_enable: true,
-            ..Start::default()
-        };
-        let replayed = self.replay_from(&start, log, &mut writes).unwrap();
+        let replayed = self.replay_from(ENABLED, log, &mut writes).unwrap();
         (replayed, writes)
     }
 
     pub fn replay_from(
         &self,
-        start: &Start,
+        start: Registers,
         log: &Rows,
         writes: &mut [u32],
     ) -> Result<Replayed, Refusal> {
-        replay(
-            self.family,
-            &self.code,
-            &self.marks,
-            self.entry,
-            MmioAddress(start.addr),
-            start.data,
-            start.flags_0,
-            start.flags_1,
-            start.hwsq_enable,
-            &log.clocks,
-            &log.known,
-            &log.values,
-            writes,
-        )
+        replay(self.slices(), start, log.columns(), writes)
     }
-}
-
-/// The registers a replay starts with.
-#[derive(Clone, Copy, Debug, Default)]
-pub struct Start {
-    pub addr: u32,
-    pub data: u32,
-    pub flags_0: u32,
-    pub flags_1: u32,
-    pub hwsq_enable: bool,
 }
 
 /// Log columns that own their rows.
@@ -132,6 +124,15 @@ impl Rows {
             clocks: rows.iter().map(|r| r.0).collect(),
             known: rows.iter().map(|r| r.1).collect(),
             values: rows.iter().map(|r| r.2).collect(),
+        }
+    }
+
+    /// The columns as the library takes them.
+    pub fn columns(&self) -> Columns<'_> {
+        Columns {
+            clocks: &self.clocks,
+            known: &self.known,
+            values: &self.values,
         }
     }
 

@@ -4,7 +4,7 @@ use crate::common::{Rows, Script};
 use second::audit::{Replayed, Run};
 use second::isa::{CodeAddress, MmioAddress, LARGEST_CODE};
 use second::job::{parse, Job};
-use second::log::Place;
+use second::log::{Columns, Place};
 use second::machine::{step, Activity, Did, Slot, SlotState, State, Step};
 use second::probe::{read, Calibration, Gate};
 
@@ -35,7 +35,12 @@ fn stepped(code: [u8; LARGEST_CODE], activity: Activity) -> State {
 #[test]
 fn whole_states_and_steps_compare() {
     let mut state = Script::new(1, "01 7f").start(Slot::A);
-    let answer = step(&mut state, Slot::A, &[9], &[0], &[0], Place::default());
+    let columns = Columns {
+        clocks: &[9],
+        known: &[0],
+        values: &[0],
+    };
+    let answer = step(&mut state, Slot::A, columns, Place::default());
     let expected = Step {
         did: Did::Done,
         place: Place { row: 1, used: 0 },

@@ -1,16 +1,16 @@
 //! Laws over pseudo-random scripts, starts and logs.
 
-use crate::common::{Random, Rows, Script, Start};
-use second::audit::{listed, Ending, Fault, Pass, WRITE_ENTRIES};
+use crate::common::{Random, Rows, Script};
+use second::audit::{listed, Ending, Fault, Pass, Registers, WRITE_ENTRIES};
 use second::isa::MmioAddress;
 use second::log::{Log, Place};
 use second::machine::{step, step_untested, Activity, Did, Slot, State, Stop};
 
 const LOW_HALF: &[u32] = &[0, 0x7fff_ffff];
 
-pub fn random_start(random: &mut Random) -> Start {
-    Start {
-        addr: random.word(),
+pub fn random_start(random: &mut Random) -> Registers {
+    Registers {
+        addr: MmioAddress(random.word()),
         data: random.word(),
         flags_0: random.word(),
         flags_1: random.word(),
@@ -27,11 +27,11 @@ fn clock_law_of_replays() {
         let rows = random.rows();
         let start = random_start(&mut random);
         let mut writes = [1; WRITE_ENTRIES];
-        let replayed = script.replay_from(&start, &rows, &mut writes).unwrap();
+        let replayed = script.replay_from(start, &rows, &mut writes).unwrap();
         let run = replayed.run;
         let spent = run.wait_clocks + run.ewait_clocks + run.left_clocks;
         assert_eq!(spent, rows.clocks.iter().sum::<u64>());
-        let log = Log::new(&rows.clocks, &rows.known, &rows.values).unwrap();
+        let log = Log::new(rows.columns()).unwrap();
         assert!(log.holds(run.place));
         assert_eq!(log.left(run.place), run.left_clocks);
         assert!(run.ending != Ending::Log || run.place == log.end());
@@ -43,12 +43,12 @@ fn clock_law_of_replays() {
 }
 
 /// The state a replay starts from.
-pub fn state_of(script: &Script, start: &Start) -> State {
+pub fn state_of(script: &Script, start: Registers) -> State {
     let mut state = script.start(Slot::A);
     state.set_flags(false, start.flags_0);
     state.set_flags(true, start.flags_1);
     state.hwsq_enable = start.hwsq_enable;
-    state.slot_mut(Slot::A).addr = MmioAddress(start.addr);
+    state.slot_mut(Slot::A).addr = start.addr;
     state.slot_mut(Slot::A).data = start.data;
     state
 }
@@ -57,8 +57,7 @@ pub fn state_of(script: &Script, start: &Start) -> State {
 pub fn run_steps(mut state: State, rows: &Rows, count: usize) -> (State, Place, u32, Vec<u32>) {
     let (mut place, mut instructions, mut writes) = (Place::default(), 0, vec![]);
     for _ in 0..count {
-        let (clocks, known, values) = (&rows.clocks, &rows.known, &rows.values);
-        let answer = step(&mut state, Slot::A, clocks, known, values, place).unwrap();
+        let answer = step(&mut state, Slot::A, rows.columns(), place).unwrap();
         place = answer.place;
         instructions += u32::from(!matches!(answer.did, Did::Nothing | Did::Stopped(_)));
         if let Did::Wrote { address, data } = answer.did {
@@ -76,9 +75,9 @@ fn replay_is_one_step_more_than_the_code_has_bytes() {
         let rows = random.rows();
         let start = random_start(&mut random);
         let mut lent = [1; WRITE_ENTRIES];
-        let replayed = script.replay_from(&start, &rows, &mut lent).unwrap();
+        let replayed = script.replay_from(start, &rows, &mut lent).unwrap();
         let (state, place, steps, writes) =
-            run_steps(state_of(&script, &start), &rows, script.code.len() + 1);
+            run_steps(state_of(&script, start), &rows, script.code.len() + 1);
         let slot = state.slot(Slot::A);
         assert_eq!(replayed.ip, slot.ip);
         assert_eq!((replayed.addr, replayed.data), (slot.addr, slot.data));
@@ -103,12 +102,12 @@ fn verdicts_are_borne_out_by_runs() {
         match script.audit(LOW_HALF) {
             Ok(pass) => {
                 met[0] += 1;
-                passed(&script, &start, pass);
-                cut_short(&script, &start, pass, &random.rows());
+                passed(&script, start, pass);
+                cut_short(&script, start, pass, &random.rows());
             }
             Err(fault) => {
                 met[usize::from(fault.number.number())] += 1;
-                at_fault(&script, &start, fault);
+                at_fault(&script, start, fault);
             }
         }
     }
@@ -116,7 +115,7 @@ fn verdicts_are_borne_out_by_runs() {
 }
 
 /// A pass against a log that releases all: the run has just the auditor's numbers.
-fn passed(script: &Script, start: &Start, pass: Pass) {
+fn passed(script: &Script, start: Registers, pass: Pass) {
     let mut writes = [0; WRITE_ENTRIES];
     let replayed = script
         .replay_from(start, &Rows::generous(), &mut writes)
@@ -134,7 +133,7 @@ fn passed(script: &Script, start: &Start, pass: Pass) {
 }
 
 /// A pass against any log: it exits, or the log ends in a wait.
-fn cut_short(script: &Script, start: &Start, pass: Pass, rows: &Rows) {
+fn cut_short(script: &Script, start: Registers, pass: Pass, rows: &Rows) {
     let mut writes = [0; WRITE_ENTRIES];
     let run = script.replay_from(start, rows, &mut writes).unwrap().run;
     match run.ending {
@@ -146,9 +145,9 @@ fn cut_short(script: &Script, start: &Start, pass: Pass, rows: &Rows) {
 }
 
 /// Runs to a place against the generous log and takes the step there.
-fn step_at(script: &Script, start: &Start, fault: Fault) -> (State, Did) {
+fn step_at(script: &Script, start: Registers, fault: Fault) -> (State, Did) {
     let rows = Rows::generous();
-    let log = Log::new(&rows.clocks, &rows.known, &rows.values).unwrap();
+    let log = Log::new(rows.columns()).unwrap();
     let mut state = state_of(script, start);
     let mut place = Place::default();
     while state.slot(Slot::A).ip != fault.place {
@@ -161,7 +160,7 @@ fn step_at(script: &Script, start: &Start, fault: Fault) -> (State, Did) {
 }
 
 /// A fault: the step at its place shows it.
-fn at_fault(script: &Script, start: &Start, fault: Fault) {
+fn at_fault(script: &Script, start: Registers, fault: Fault) {
     let (state, did) = step_at(script, start, fault);
     let slot = state.slot(Slot::A);
     match fault.number.number() {
@@ -169,18 +168,18 @@ fn at_fault(script: &Script, start: &Start, fault: Fault) {
         2 => assert_eq!(did, Did::Stopped(Stop::NeverUploaded)),
         3 => assert_eq!(did, Did::UnknownOpcode),
         4 => {
-            let other = Start {
-                addr: start.addr ^ 0x8000_0000,
-                ..*start
+            let other = Registers {
+                addr: MmioAddress(start.addr.0 ^ 0x8000_0000),
+                ..start
             };
-            assert_ne!(step_at(script, &other, fault).1, did);
+            assert_ne!(step_at(script, other, fault).1, did);
         }
         5 => {
-            let other = Start {
+            let other = Registers {
                 data: start.data ^ 0x8000_0000,
-                ..*start
+                ..start
             };
-            assert_ne!(step_at(script, &other, fault).1, did);
+            assert_ne!(step_at(script, other, fault).1, did);
         }
         6 => {
             let Did::Wrote { address, .. } = did else {

@@ -1,15 +1,20 @@
 //! Logs and places in them.
 
 use crate::common::Rows;
-use second::log::{clocks_fit, coverage, Coverage, Log, Passed, Place};
+use second::log::{clocks_fit, coverage, Columns, Coverage, Log, Passed, Place};
 use second::Refusal;
 
 fn log(rows: &Rows) -> Log<'_> {
-    Log::new(&rows.clocks, &rows.known, &rows.values).unwrap()
+    Log::new(rows.columns()).unwrap()
 }
 
 fn refused(clocks: &[u64], known: &[u32], values: &[u32]) -> bool {
-    matches!(Log::new(clocks, known, values), Err(Refusal::UnfitLog))
+    let columns = Columns {
+        clocks,
+        known,
+        values,
+    };
+    matches!(Log::new(columns), Err(Refusal::UnfitLog))
 }
 
 #[test]
@@ -29,13 +34,13 @@ fn validity() {
 
 #[test]
 fn places() {
-    let rows = Rows::new(&[(2, 0, 0), (1, 0, 0)]);
-    let log = log(&rows);
+    let (rows, no_rows) = (Rows::new(&[(2, 0, 0), (1, 0, 0)]), Rows::default());
+    let (log, empty) = (log(&rows), log(&no_rows));
     let holds = |row, used| log.holds(Place { row, used });
     assert!(holds(0, 0) && holds(0, 1) && !holds(0, 2));
     assert!(holds(1, 0) && !holds(1, 1));
     assert!(holds(2, 0) && !holds(2, 1) && !holds(3, 0) && !holds(usize::MAX, 0));
-    assert!(Log::new(&[], &[], &[]).unwrap().holds(Place::default()));
+    assert!(empty.holds(Place::default()));
 }
 
 /// Every clock of a log as its place, then the end.
@@ -112,8 +117,8 @@ fn passed(place: Place, clocks: u64, done: bool) -> Passed {
 
 #[test]
 fn ends_of_a_log() {
-    let rows = Rows::new(&[(32, 0, 0)]);
-    let log = log(&rows);
+    let (rows, no_rows) = (Rows::new(&[(32, 0, 0)]), Rows::default());
+    let (log, empty) = (log(&rows), log(&no_rows));
     let end = Place { row: 1, used: 0 };
     let start = Place::default();
     assert_eq!(log.wait(start, 32), passed(end, 32, true));
@@ -121,7 +126,6 @@ fn ends_of_a_log() {
     assert_eq!(log.wait(end, 0), passed(end, 0, true));
     assert_eq!(log.wait(end, 1), passed(end, 0, false));
     assert_eq!(log.ewait(end, 0, 0), passed(end, 0, false));
-    let empty = Log::new(&[], &[], &[]).unwrap();
     assert_eq!(empty.wait(start, 0), passed(start, 0, true));
     assert_eq!(empty.ewait(start, 0, 0), passed(start, 0, false));
     assert_eq!((empty.total(), empty.left(start), empty.rows()), (0, 0, 0));

@@ -1,41 +1,16 @@
 //! Pairs of runs, the second under more log.
 
-use crate::common::{Rows, Script, Start, ALL};
-use second::audit::WRITE_ENTRIES;
-use second::isa::{CodeAddress, MmioAddress};
+use crate::common::{Rows, Script, ALL, ENABLED};
+use second::audit::{Registers, WRITE_ENTRIES};
+use second::isa::CodeAddress;
 use second::more_log::WaitEnd::{At, Never};
 use second::more_log::{filled_in, keeps_writes, never_later, wait_ends, Masks, WaitEnd};
 use second::Refusal;
-
-const ENABLED: Start = Start {
-    addr: 0,
-    data: 0,
-    flags_0: 0,
-    flags_1: 0,
-    hwsq_enable: true,
-};
 
 /// data 12345678, addr 00101600, a wait for event 1 to be 1, addrlo 2004, exit.
 const HELD: &str = "e278563412 e000161000 5f0101 400420 7f";
 const FIRST: [u32; 2] = [0x10_1600, 0x1234_5678];
 const BOTH: [u32; 4] = [0x10_1600, 0x1234_5678, 0x10_2004, 0x1234_5678];
-
-pub fn ends_from(script: &Script, start: &Start, rows: &Rows) -> Result<Vec<WaitEnd>, Refusal> {
-    wait_ends(
-        script.family,
-        &script.code,
-        &script.marks,
-        script.entry,
-        MmioAddress(start.addr),
-        start.data,
-        start.flags_0,
-        start.flags_1,
-        start.hwsq_enable,
-        &rows.clocks,
-        &rows.known,
-        &rows.values,
-    )
-}
 
 /// What a run shows: its writes and the ends of its waits.
 #[derive(Debug, PartialEq, Eq)]
@@ -53,17 +28,17 @@ impl Shown {
     }
 }
 
-pub fn shown_from(script: &Script, start: &Start, rows: &Rows) -> Shown {
+pub fn shown_from(script: &Script, start: Registers, rows: &Rows) -> Shown {
     let mut writes = vec![0; WRITE_ENTRIES];
     let replayed = script.replay_from(start, rows, &mut writes).unwrap();
     writes.truncate(2 * replayed.run.writes as usize);
-    let ends = ends_from(script, start, rows).unwrap();
+    let ends = wait_ends(script.slices(), start, rows.columns()).unwrap();
     Shown { writes, ends }
 }
 
 /// A run with HWSQ_ENABLE 1 and all other registers 0.
 fn shown(script: &Script, rows: &[(u64, u32, u32)]) -> Shown {
-    shown_from(script, &ENABLED, &Rows::new(rows))
+    shown_from(script, ENABLED, &Rows::new(rows))
 }
 
 fn ends(family: u8, text: &str, rows: &[(u64, u32, u32)]) -> Vec<WaitEnd> {
@@ -141,7 +116,7 @@ fn only_waits_that_were_executed_are_told() {
     assert_eq!(shown(&hole, &rows).ends, [At(32)]);
     let poke = Script::new(2, "01 400000 01 7f");
     assert_eq!(shown(&poke, &rows).ends, [At(32), At(64)]);
-    let blocked = shown_from(&poke, &Start::default(), &Rows::new(&rows));
+    let blocked = shown_from(&poke, Registers::default(), &Rows::new(&rows));
     assert_eq!(blocked, Shown::new(&[], &[At(32)]));
     // A code RAM of zeros has a wait in each place.
     assert_eq!(ends(4, "", &[]), [At(0); 512]);
@@ -270,7 +245,7 @@ fn refused(change: impl Fn(&mut Script, &mut Rows)) -> u8 {
     let mut script = Script::new(2, "01 7f");
     let mut rows = Rows::new(&[(1, 0, 0)]);
     change(&mut script, &mut rows);
-    let answer = ends_from(&script, &ENABLED, &rows);
+    let answer = wait_ends(script.slices(), ENABLED, rows.columns());
     answer.map_or_else(Refusal::number, |_| 0)
 }
 

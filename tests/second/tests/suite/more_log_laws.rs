@@ -2,11 +2,11 @@
 
 use crate::common::{Random, Rows, Script, ALL};
 use crate::laws::{random_start, run_steps, state_of};
-use crate::more_log::{ends_from, holds, masks, shown_from, Shown};
+use crate::more_log::{holds, masks, shown_from, Shown};
 use second::audit::{Ending, WRITE_ENTRIES};
 use second::isa::{encode, Instruction, MmioAddress};
 use second::more_log::WaitEnd::{At, Never};
-use second::more_log::{filled_in, keeps_writes, WaitEnd};
+use second::more_log::{filled_in, keeps_writes, wait_ends, WaitEnd};
 
 #[test]
 fn ends_agree_with_replays() {
@@ -17,8 +17,8 @@ fn ends_agree_with_replays() {
         let rows = random.rows();
         let start = random_start(&mut random);
         let mut writes = [0; WRITE_ENTRIES];
-        let run = script.replay_from(&start, &rows, &mut writes).unwrap().run;
-        let ends = ends_from(&script, &start, &rows).unwrap();
+        let run = script.replay_from(start, &rows, &mut writes).unwrap().run;
+        let ends = wait_ends(script.slices(), start, rows.columns()).unwrap();
         assert!(ends.is_sorted());
         let cut_off = ends.iter().filter(|&&end| end == Never).count();
         assert_eq!(cut_off, usize::from(run.ending == Ending::Log));
@@ -140,8 +140,8 @@ fn more_log_never_makes_fewer_writes() {
         let start = random_start(&mut random);
         let rows = sparse(&mut random);
         let more = more(&mut random, &rows);
-        let before = shown_from(&script, &start, &rows);
-        let now = shown_from(&script, &start, &more);
+        let before = shown_from(&script, start, &rows);
+        let now = shown_from(&script, start, &more);
         assert!(holds(&before, &now), "{script:?} {rows:?} {more:?}");
         for (count, outcome) in met.iter_mut().zip(outcomes(&before, &now)) {
             *count += u32::from(passes && outcome);
@@ -160,8 +160,8 @@ fn the_same_after_any_number_of_steps() {
         let rows = sparse(&mut random);
         let more = more(&mut random, &rows);
         let count = random.below(16) as usize;
-        let (_, _, _, before) = run_steps(state_of(&script, &start), &rows, count);
-        let (_, _, _, now) = run_steps(state_of(&script, &start), &more, count);
+        let (_, _, _, before) = run_steps(state_of(&script, start), &rows, count);
+        let (_, _, _, now) = run_steps(state_of(&script, start), &more, count);
         assert!(keeps_writes(&before, &now));
         added += u32::from(now.len() > before.len());
     }

@@ -1,7 +1,7 @@
 //! Replays.
 
-use crate::common::{Rows, Script, Start};
-use second::audit::{Ending, WRITE_ENTRIES};
+use crate::common::{Rows, Script, ENABLED};
+use second::audit::{Ending, Registers, WRITE_ENTRIES};
 use second::isa::{CodeAddress, MmioAddress};
 use second::log::Place;
 use second::Refusal;
@@ -81,14 +81,14 @@ fn ending_log_in_a_wait() {
 #[test]
 fn ending_poke() {
     let mut writes = [7; WRITE_ENTRIES];
-    let start = Start {
-        addr: 0xaaaa_bbbb,
+    let start = Registers {
+        addr: MmioAddress(0xaaaa_bbbb),
         data: 5,
-        ..Start::default()
+        ..Registers::default()
     };
     let script = Script::new(3, "a0 403412 7f");
     let replayed = script
-        .replay_from(&start, &Rows::default(), &mut writes)
+        .replay_from(start, &Rows::default(), &mut writes)
         .unwrap();
     assert_eq!(
         (replayed.run.ending, replayed.ip),
@@ -161,14 +161,14 @@ fn most_writes_fill_the_entries_lent() {
 
 #[test]
 fn flags_come_in_and_go_out() {
-    let start = Start {
+    let start = Registers {
         flags_0: 0x1234_5678,
         flags_1: 0x9abc_def0,
-        ..Start::default()
+        ..Registers::default()
     };
     let mut writes = [0; WRITE_ENTRIES];
     let replayed = Script::new(1, "7f")
-        .replay_from(&start, &Rows::default(), &mut writes)
+        .replay_from(start, &Rows::default(), &mut writes)
         .unwrap();
     assert_eq!(
         (replayed.flags_0, replayed.flags_1),
@@ -176,7 +176,7 @@ fn flags_come_in_and_go_out() {
     );
     let replayed = Script::new(1, "8c d07f");
     let replayed = replayed
-        .replay_from(&start, &Rows::default(), &mut writes)
+        .replay_from(start, &Rows::default(), &mut writes)
         .unwrap();
     assert_eq!(
         (replayed.flags_0, replayed.flags_1),
@@ -190,11 +190,7 @@ fn refused(change: impl Fn(&mut Script, &mut Rows), lent: usize) -> u8 {
     let mut rows = Rows::new(&[(1, 0, 0)]);
     change(&mut script, &mut rows);
     let mut writes = vec![3; lent];
-    let start = Start {
-        hwsq_enable: true,
-        ..Start::default()
-    };
-    let answer = script.replay_from(&start, &rows, &mut writes);
+    let answer = script.replay_from(ENABLED, &rows, &mut writes);
     let number = answer.map_or_else(Refusal::number, |_| 0);
     assert_eq!(number == 0, writes.iter().any(|&w| w != 3));
     number

@@ -2,14 +2,14 @@
 
 use crate::common::{Rows, Script};
 use second::isa::{CodeAddress, MmioAddress};
-use second::log::{Log, Place};
+use second::log::{Columns, Log, Place};
 use second::machine::*;
 use second::Refusal;
 
 const START: Place = Place { row: 0, used: 0 };
 
 fn one(state: &mut State, slot: Slot, rows: &Rows, place: Place) -> Step {
-    step(state, slot, &rows.clocks, &rows.known, &rows.values, place).unwrap()
+    step(state, slot, rows.columns(), place).unwrap()
 }
 
 /// One step in slot A against an empty log.
@@ -304,14 +304,21 @@ fn step_refuses_family_then_log_and_place() {
         (&[1], &[0], Place { row: 0, used: 1 }),
         (&[1], &[0], Place { row: 2, used: 0 }),
     ] {
-        let answer = step(&mut state, Slot::A, clocks, known, &[0], place);
+        let columns = Columns {
+            clocks,
+            known,
+            values: &[0],
+        };
+        let answer = step(&mut state, Slot::A, columns, place);
         assert_eq!(answer, Err(Refusal::UnfitLog));
         assert_eq!(state, before);
     }
     state.family = 0;
-    let answer = step(&mut state, Slot::A, &[0], &[0], &[0], outside);
+    let unfit = Rows::new(&[(0, 0, 0)]);
+    let answer = step(&mut state, Slot::A, unfit.columns(), outside);
     assert_eq!(answer, Err(Refusal::UnfitInput));
-    let log = Log::new(&[], &[], &[]).unwrap();
+    let empty = Rows::default();
+    let log = Log::new(empty.columns()).unwrap();
     assert_eq!(
         step_untested(&mut state, Slot::A, &log, START).did,
         Did::Nothing
@@ -321,6 +328,7 @@ fn step_refuses_family_then_log_and_place() {
 #[test]
 fn idle_slots_are_refused_too() {
     let mut state = State::fresh(2).unwrap();
-    let answer = step(&mut state, Slot::A, &[0], &[0], &[0], START);
+    let unfit = Rows::new(&[(0, 0, 0)]);
+    let answer = step(&mut state, Slot::A, unfit.columns(), START);
     assert_eq!(answer, Err(Refusal::UnfitLog));
 }

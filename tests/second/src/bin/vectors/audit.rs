@@ -9,8 +9,7 @@ use second::show;
 pub fn audit(ram: Ram, words: &mut Words) -> Answer {
     let script = Script::read(ram, words)?;
     let ranges = ranges(words)?;
-    let (code, marks) = (&script.code, &script.marks);
-    let verdict = match audit::audit(script.family, code, marks, script.entry, &ranges) {
+    let verdict = match audit::audit(script.slices(), &ranges) {
         Ok(pass) => format!(
             "verdict 0 place {} count {} writes {} clocks {}",
             pass.place.0, pass.instructions, pass.writes, pass.wait_clocks

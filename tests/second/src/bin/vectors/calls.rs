@@ -1,6 +1,6 @@
 //! Which call a line is, and what calls leave for later ones.
 
-use crate::log::Columns;
+use crate::log::Rows;
 use crate::machine::Bench;
 use crate::script::Ram;
 use crate::words::{Answer, Read, Words};
@@ -9,7 +9,7 @@ use crate::{audit, isa, probe, replay};
 /// What calls leave for later ones.
 #[derive(Default)]
 pub struct Calls {
-    log: Columns,
+    log: Rows,
     bench: Option<Bench>,
 }
 
@@ -44,16 +44,16 @@ impl Calls {
             "high" => self.bench()?.high(words),
             "slots" => self.bench()?.slots(),
             "place" => self.bench()?.place(words),
-            "step" => started(&mut self.bench)?.step(words, &self.log),
+            "step" => started(&mut self.bench)?.step(words, self.log.columns()),
             "audit" => audit::audit(Ram::Whole, words),
             "audit_part" => audit::audit(Ram::Part, words),
             "audit_hole" => audit::audit(Ram::Hole, words),
             "audit_input" => audit::audit(Ram::Input, words),
             "listed" => audit::listed(words),
-            "replay" => replay::replay(Ram::Whole, words, &self.log),
-            "replay_part" => replay::replay(Ram::Part, words, &self.log),
-            "replay_hole" => replay::replay(Ram::Hole, words, &self.log),
-            "replay_input" => replay::replay(Ram::Input, words, &self.log),
+            "replay" => replay::replay(Ram::Whole, words, self.log.columns()),
+            "replay_part" => replay::replay(Ram::Part, words, self.log.columns()),
+            "replay_hole" => replay::replay(Ram::Hole, words, self.log.columns()),
+            "replay_input" => replay::replay(Ram::Input, words, self.log.columns()),
             _ => {
                 words.pass_over();
                 Ok(Some("unknown call".to_string()))
@@ -65,7 +65,7 @@ impl Calls {
     fn fresh(&mut self, words: &mut Words) -> Answer {
         let (bench, answer) = Bench::fresh(words.number()?);
         self.bench = Some(bench);
-        self.log = Columns::default();
+        self.log = Rows::default();
         Ok(Some(answer))
     }
 

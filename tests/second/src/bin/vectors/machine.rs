@@ -1,9 +1,8 @@
 //! Calls on the host's registers and the step machine.
 
-use crate::log::Columns;
 use crate::words::{wrong, Answer, Read, Words};
 use second::isa::{CodeAddress, MmioAddress};
-use second::log::Place;
+use second::log::{Columns, Place};
 use second::machine::{self as library, Activity, Did, Slot, SlotState, State, Stop};
 use second::{show, Refusal};
 
@@ -78,16 +77,9 @@ impl Bench {
     }
 
     /// One step; a refused one spent no clocks and leaves the place.
-    pub fn step(&mut self, words: &mut Words, log: &Columns) -> Answer {
+    pub fn step(&mut self, words: &mut Words, log: Columns) -> Answer {
         let slot = slot(words)?;
-        let answer = library::step(
-            &mut self.state,
-            slot,
-            &log.clocks,
-            &log.known,
-            &log.values,
-            self.place,
-        );
+        let answer = library::step(&mut self.state, slot, log, self.place);
         let (mut waited, mut searched) = (0, 0);
         if let Ok(step) = answer {
             (waited, searched) = (step.wait_clocks, step.ewait_clocks);

@@ -1,10 +1,10 @@
 //! Calls on the replay.
 
-use crate::log::Columns;
 use crate::script::{Ram, Script};
 use crate::words::{Answer, Read, Words};
-use second::audit::{self as library, Replayed};
+use second::audit::{self as library, Registers, Replayed};
 use second::isa::MmioAddress;
+use second::log::Columns;
 use second::show;
 
 /// Most entries a call lends.
@@ -14,36 +14,13 @@ const LENT: u32 = 0xaaaa_aaaa;
 /// Lent entries shown past those written, so that a stray write would be seen.
 const SHOWN_PAST: usize = 2;
 
-/// The registers a replay starts with.
-struct Start {
-    addr: MmioAddress,
-    data: u32,
-    flags_0: u32,
-    flags_1: u32,
-    enable: bool,
-}
-
 /// The answer of a replay and the first of the entries lent to it.
-pub fn replay(ram: Ram, words: &mut Words, log: &Columns) -> Answer {
+pub fn replay(ram: Ram, words: &mut Words, log: Columns) -> Answer {
     let script = Script::read(ram, words)?;
-    let start = start(words)?;
+    let registers = registers(words)?;
     words.fixed("lent")?;
     let mut entries = vec![LENT; words.at_most(MOST_LENT)?];
-    let answer = library::replay(
-        script.family,
-        &script.code,
-        &script.marks,
-        script.entry,
-        start.addr,
-        start.data,
-        start.flags_0,
-        start.flags_1,
-        start.enable,
-        &log.clocks,
-        &log.known,
-        &log.values,
-        &mut entries,
-    );
+    let answer = library::replay(script.slices(), registers, log, &mut entries);
     let written = answer.map_or(0, |replayed| 2 * replayed.run.writes as usize);
     let mut line = show::answer(answer.map(ended)) + " lent";
     for entry in entries.iter().take(written + SHOWN_PAST) {
@@ -52,7 +29,8 @@ pub fn replay(ram: Ram, words: &mut Words, log: &Columns) -> Answer {
     Ok(Some(line))
 }
 
-fn start(words: &mut Words) -> Read<Start> {
+/// The registers a replay starts with.
+fn registers(words: &mut Words) -> Read<Registers> {
     words.fixed("addr")?;
     let addr = MmioAddress(words.word()?);
     words.fixed("data")?;
@@ -60,13 +38,13 @@ fn start(words: &mut Words) -> Read<Start> {
     words.fixed("flags")?;
     let (flags_0, flags_1) = (words.word()?, words.word()?);
     words.fixed("enable")?;
-    let enable = words.one_of("yes or no", &[true, false], show::yes_or_no)?;
-    Ok(Start {
+    let hwsq_enable = words.one_of("yes or no", &[true, false], show::yes_or_no)?;
+    Ok(Registers {
         addr,
         data,
         flags_0,
         flags_1,
-        enable,
+        hwsq_enable,
     })
 }
 

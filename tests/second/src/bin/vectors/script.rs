@@ -1,6 +1,7 @@
 //! The script of an audit or a replay: code with its marks, and the place it is entered at.
 
 use crate::words::{Read, Words};
+use second::audit as library;
 use second::isa::{self, CodeAddress};
 
 /// Most bytes or marks of a script that need not fit a family.
@@ -19,11 +20,12 @@ pub enum Ram {
     Input,
 }
 
+/// A script that owns its code and marks.
 pub struct Script {
-    pub family: u8,
-    pub code: Vec<u8>,
-    pub marks: Vec<u8>,
-    pub entry: CodeAddress,
+    family: u8,
+    code: Vec<u8>,
+    marks: Vec<u8>,
+    entry: CodeAddress,
 }
 
 impl Script {
@@ -46,6 +48,16 @@ impl Script {
             Ram::Input => script.fill(words)?,
         }
         Ok(script)
+    }
+
+    /// The script as the library takes it.
+    pub fn slices(&self) -> library::Script<'_> {
+        library::Script {
+            family: self.family,
+            code: &self.code,
+            marks: &self.marks,
+            entry: self.entry,
+        }
     }
 
     /// The bytes from a place on, 00 all around them, and only they uploaded.
