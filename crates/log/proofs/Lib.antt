@@ -1,2 +1,3 @@
 pub mod ValidLaws
 pub mod Ranges
+pub mod Columns

@@ -1,13 +1,15 @@
 -- The replay loop against the run of its steps. Assumes nothing.
 use Prim.Native.Nat.{ℕ, zero, suc, _+_, _-_, _*_, _^_, _≤_, _<_}
-use mathlib.Core.Path.{_≡_, refl, sym, ap, _∙_}
+use mathlib.Core.Path.{_≡_, refl, sym, ap, ap₂, _∙_}
 use mathlib.Core.Bool.{true, false}
 use mathlib.Core.List.{List, [], _++_}
 use native.Mathlib.Omega.{arith}
-use lib.ListN.{length, drop, length-append, length-drop}
-use lib.Seq.{sets, sets-eq, drop-append-add, drop-drop}
+use lib.ListN.{length, drop, length-append}
+use lib.Seq.{sets}
 use Rattle.fetch.specs.Fetch.{fetchOf}
+use Rattle.log.specs.Rows.{columnInto}
 use Rattle.log.specs.Validity.{validLog, logStart}
+use Rattle.log.proofs.Columns.{column-length, column-more}
 use Rattle.waits.proofs.LeftLaws.{left-most}
 use Rattle.state.specs.Slot.{isRunning}
 use Rattle.turn.specs.Turn.{turnOf}
@@ -19,7 +21,7 @@ use Rattle.run.specs.Run.{Write, wroteBy, fetchedBy}
 use Rattle.run.specs.SlotRun.{Scene, SlotRun, slotBegun, tookTurn, turnFrom, nextTurn, slotRunFor}
 use Rattle.run.specs.Replay.{entriesOf, writtenInto, fullSteps, fullSlotRun, progressOf}
 use Rattle.run.specs.declared.answers.Progress.{Progress}
-use Rattle.run.proofs.Entries.{entries-length, entries-append, written-entries}
+use Rattle.run.proofs.Entries.{entries-length, entries-append}
 use Rattle.run.proofs.Room.{slot-room}
 use Rattle.run.proofs.SlotRuns.{slot-snoc, slot-clocks}
 use Rattle.run.proofs.Settled.{settled-more, rest-settled}
@@ -52,22 +54,21 @@ module _ (lent : List ℕ) (ws : List Write) where
   pub written-none : lent ≡ writtenInto lent []
   written-none = refl
 
-  pub written-length : 2 * length ws ≤ length lent → length (writtenInto lent ws) ≡ length lent
-  written-length h = simp length-append (omega (arith, entries-length ws, length-drop (2 * length ws) lent))
+  written-is : writtenInto lent ws ≡ columnInto lent (entriesOf ws)
+  written-is = ap (λ (n : ℕ). entriesOf ws ++ drop n lent) (sym (entries-length ws))
 
-  -- more writes are stored after those that are there
-  pub written-more : (more : List Write) → 2 * length (ws ++ more) ≤ length lent
-      → sets (writtenInto lent ws) (2 * length ws) (entriesOf more) ≡ writtenInto lent (ws ++ more)
-  written-more more h =
-      let n = 2 * length ws in
-      let m = length (entriesOf more) in
-      let e = entries-length ws in
-      let sum : 2 * length (ws ++ more) ≡ n + m = omega (arith, entries-length more, length-append ws more) in
-      let room : n + m ≤ length (writtenInto lent ws) = omega (arith, written-length (omega (arith, length-append ws more))) in
-      let front = written-entries lent ws in
-      let back : drop (n + m) (writtenInto lent ws) ≡ drop (2 * length (ws ++ more)) lent =
-      ap (λ (k : ℕ). drop (k + m) (writtenInto lent ws)) (sym e) ∙ drop-append-add (entriesOf ws) (drop n lent) m ∙ drop-drop m n lent ∙ ap (λ (k : ℕ). drop k lent) (sym sum) in
-      sets-eq (entriesOf more) (writtenInto lent ws) n room ∙ rw (front, back, entries-append ws more)
+  pub written-length : 2 * length ws ≤ length lent → length (writtenInto lent ws) ≡ length lent
+  written-length h = ap length written-is ∙ column-length lent (entriesOf ws) (omega (arith, entries-length ws))
+
+-- more writes are stored after those that are there
+pub written-more : (lent : List ℕ) (ws more : List Write) → 2 * length (ws ++ more) ≤ length lent
+    → sets (writtenInto lent ws) (2 * length ws) (entriesOf more) ≡ writtenInto lent (ws ++ more)
+written-more lent ws more h =
+    let n = entries-length ws in
+    ap₂ (λ (now : List ℕ) (at : ℕ). sets now at (entriesOf more)) (written-is lent ws) (sym n)
+    ∙ column-more lent (entriesOf ws) (entriesOf more) (omega (arith, n, entries-length more, length-append ws more))
+    ∙ ap (columnInto lent) (sym (entries-append ws more))
+    ∙ sym (written-is lent (ws ++ more))
 
 -- ---- one turn
 
