@@ -4,6 +4,7 @@ use Rattle.refusals.specs.declared.refusals.Fault.{Fault}
 use Rattle.refusals.specs.declared.refusals.Inaccessible.{Inaccessible}
 use Rattle.refusals.specs.declared.refusals.Unreadable.{Unreadable}
 use Rattle.refusals.specs.declared.refusals.Unreplayable.{Unreplayable}
+use Rattle.refusals.specs.declared.refusals.Unshowable.{Unshowable}
 use Rattle.refusals.specs.declared.refusals.Unsteppable.{Unsteppable}
 use Rattle.refusals.specs.declared.refusals.Unwritable.{Unwritable}
 
@@ -50,3 +51,8 @@ abbrev pub unreplayableNumber : Unreplayable → ℕ
 unreplayableNumber Unreplayable.Input = 9
 unreplayableNumber Unreplayable.Room = 14
 unreplayableNumber Unreplayable.Log = 15
+
+-- the log that shows a verdict
+abbrev pub unshowableNumber : Unshowable → ℕ
+unshowableNumber Unshowable.Input = 9
+unshowableNumber Unshowable.Room = 14

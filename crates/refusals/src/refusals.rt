@@ -1,6 +1,6 @@
 // Why calls are refused and scripts are faulty, and the number of each reason.
 ghost use mathlib.Core.Path.{_≡_};
-ghost use Rattle.refusals.specs.Number.{unreadableNumber, unwritableNumber, unsteppableNumber, inaccessibleNumber, faultNumber, unreplayableNumber};
+ghost use Rattle.refusals.specs.Number.{unreadableNumber, unwritableNumber, unsteppableNumber, inaccessibleNumber, faultNumber, unreplayableNumber, unshowableNumber};
 
 // Why there is no instruction.
 pub enum Unreadable {
@@ -62,6 +62,12 @@ pub enum Unreplayable {
     Input,
     Room,
     Log,
+}
+
+// Why no log is made that shows a verdict.
+pub enum Unshowable {
+    Input,
+    Room,
 }
 
 // The numbers.
@@ -130,5 +136,14 @@ pub fn unreplayable_number(why: Unreplayable) -> u8
         Unreplayable::Input => 9,
         Unreplayable::Room => 14,
         Unreplayable::Log => 15,
+    }
+}
+
+pub fn unshowable_number(why: Unshowable) -> u8
+    ensures { λ r. ⌜ r ≡ unshowableNumber why ⌝ }
+{
+    match why {
+        Unshowable::Input => 9,
+        Unshowable::Room => 14,
     }
 }
