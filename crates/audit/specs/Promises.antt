@@ -1,15 +1,18 @@
--- What the auditor promises of its verdict: the defined one, its number, and demand 3 about it; and what that verdict is on the starred scripts.
+-- What the auditor promises of its verdict: the defined one, its number, demand 3 about it, and the log that shows it; and what it is on the starred scripts.
 use Prim.Native.Nat.{ℕ}
 use mathlib.Core.Path.{_≡_}
 use mathlib.Core.List.{List}
 use Rattle.verdict.specs.Auditor.{verdictNumber, auditOf, auditNumber}
 use Rattle.verdict.specs.Demand3.{Demand3}
 use Rattle.verdict.specs.Starred.{Starred}
+use Rattle.verdict.specs.Witness.{Witnessed}
 use Rattle.verdict.specs.declared.verdicts.Verdict.{Verdict}
 
 pub record Audits (family : ℕ) (code marks : List ℕ) (entry : ℕ) (ranges : List ℕ) (answer : Verdict) : Type 0 where
   pub answered : answer ≡ auditOf family code marks entry ranges
   pub numbered : verdictNumber answer ≡ auditNumber family code marks entry ranges
   pub demand3 : Demand3 family code marks entry ranges answer
+  -- a log that the script itself dictates shows it, from every start
+  pub witnessed : Witnessed family code marks entry ranges answer
   -- of the definition, and so of every answer
   pub starred : Starred

@@ -5,7 +5,7 @@ use mathlib.Core.Logic.{inl, inr}
 use mathlib.Core.Bool.{Bool, true, false, cond, not, _&&_}
 use mathlib.Core.List.{List}
 use native.Mathlib.Omega.{arith}
-use lib.ListN.{getD}
+use lib.ListN.{length, getD}
 use Rattle.families.specs.Family.{codeSize, pausesMemory}
 use Rattle.isa.proofs.Tests.{both-left, cond-elim}
 use Rattle.refusals.specs.declared.refusals.Fault.{Fault}
@@ -21,18 +21,21 @@ use Rattle.run.specs.Run.{Run, begun, nextStep, runFor}
 use Rattle.run.specs.SlotRun.{SlotRun, nextTurn, slotRunOf}
 use Rattle.run.proofs.MoreLog.{rows-added, readings-filled}
 use Rattle.verdict.specs.Auditor.{verdictNumber, faultAt, knowNothing, verdictIn, auditOf, auditNumber}
-use Rattle.verdict.specs.Demand3.{Orderly, Exact, Safe, VerdictMeans, Demand3}
+use Rattle.verdict.specs.Demand3.{Orderly, Safe, VerdictMeans, Demand3}
+use Rattle.verdict.specs.Witness.{OwnLogShows, Witnessed}
 use Rattle.verdict.specs.declared.verdicts.Knowledge.{Knowledge}
 use Rattle.verdict.specs.declared.verdicts.Verdict.{Verdict}
 use Rattle.verdict.proofs.Cases.{never}
 use Rattle.verdict.proofs.Going.{sceneUnder, performs}
-use Rattle.verdict.proofs.Walk.{Walk, Ends, at-refused, at-bad, at-exit, Walked, audit-walks}
-use Rattle.verdict.proofs.Soundness.{Exited, Stands, goes, waits, exits, sound}
+use Rattle.verdict.proofs.Walk.{Walk, actionsOf, way-is, Ends, at-refused, at-bad, at-exit, Walked, audit-walks}
+use Rattle.verdict.proofs.Soundness.{Stands, goes, waits, exits, sound}
 use Rattle.verdict.proofs.Endings.{ends-well}
 use Rattle.verdict.proofs.SameWrites.{same-writes}
-use Rattle.verdict.proofs.WitnessLog.{actions, witnessLog, witness-valid, witness-masks, bounded, bounded-start}
+use Rattle.verdict.proofs.WitnessRun.{witnessLog}
+use Rattle.verdict.proofs.WitnessLog.{witness-valid, witness-masks, bounded, bounded-start}
 use Rattle.verdict.proofs.Starts.{begun-agrees, slot-follows, effect-follows, starts-in}
-use Rattle.verdict.proofs.Faults.{exited, refused, blamed}
+use Rattle.verdict.proofs.Shown.{exact-in, exited, shown-by}
+use Rattle.verdict.proofs.Faults.{refused, blamed}
 use Rattle.verdict.proofs.ReplayLaws.{replay-tells}
 
 orderly-effect : (action : Action) (addr word : ℕ) → Orderly (effectOf action true addr word)
@@ -46,14 +49,6 @@ orderly-effect Action.Exit addr word = tt
 -- ---- a state's run, from what it shows of the slot
 
 module _ (x : Script) (entry : ℕ) {q : ℕ} {l : Knowledge} (unpaused : (pausesMemory (x .family) && l .paused) ≡ false) (name : SlotName) (r : Run) where
-  exact-in : Exited x q l (slotRunOf name r) → Exact (x .family) (x .code) (x .marks) entry (x .ranges) name q (l .count + 1) (l .writes) (l .clocks) r
-  exact-in h = record {
-    exit = record { idle = h .idle; ip = h .ip; memory-runs = h .paused ∙ unpaused };
-    counted = h .counted;
-    wrote = h .wrote;
-    waited = h .waited;
-  }
-
   safe-in : (log : Log) (n : ℕ) → nextStep name log r .effect ≡ nextTurn (sceneUnder x log) (slotRunOf name r) .effect → Stands x log q l n (slotRunOf name r)
       → Safe (x .family) (x .code) (x .marks) entry (x .ranges) name q (l .count + 1) (l .writes) (l .clocks) log n r
   unfolding performOf
@@ -69,7 +64,7 @@ module _ (x : Script) (entry : ℕ) {q : ℕ} {l : Knowledge} (unpaused : (pause
     ended = λ _. inr (record { waits = h .waiting; row = h .row; used = h .used });
     exact = λ m. never (cc (h .waiting));
   }
-  safe-in log n does (exits h) = record { listed = h .listed; orderly = rw (does, h .idle) tt; ended = λ _. inl (exact-in h .exit); exact = λ _. exact-in h }
+  safe-in log n does (exits h) = record { listed = h .listed; orderly = rw (does, h .idle) tt; ended = λ _. inl (exact-in x entry unpaused name r h .exit); exact = λ _. exact-in x entry unpaused name r h }
 
 -- ---- what the walk comes to
 
@@ -77,7 +72,7 @@ module _ (x : Script) (entry : ℕ) (fit : Auditable x entry) (fits-so : scriptF
   -- what the end of the walk means
   ended : {q : ℕ} {k : Knowledge} {v : Verdict} → Walk x entry knowNothing q k → Ends x q k v → VerdictMeans (x .family) (x .code) (x .marks) entry (x .ranges) v
   ended w (at-refused why e) = refused x entry fit w why e
-  ended w (at-bad action n fault e b) = blamed x entry fit w action n fault e b
+  ended w (at-bad action n fault e b) = blamed x entry fit w action n e fault b
   ended {q} {k} w (at-exit n e unpaused) = record {
     safe = λ name s start log valid m.
         let same = slot-follows x entry start (fit .fits) log valid m in
@@ -93,20 +88,27 @@ module _ (x : Script) (entry : ℕ) (fit : Auditable x entry) (fits-so : scriptF
     bounded = omega (arith, bounded w bounded-start .count, e .some, e .inside);
     reaches = λ name s start. (
       witnessLog x w,
-      suc (actions x w),
+      suc (length (actionsOf x w)),
       witness-valid x w,
       witness-masks x w,
-      exact-in x entry unpaused name (runFor name (witnessLog x w) (suc (actions x w)) (begun s)) (exited x entry fit w start e) .exit,
+      exact-in x entry unpaused name (runFor name (witnessLog x w) (suc (length (actionsOf x w))) (begun s)) (exited x entry fit w start e) .exit,
     );
     replays = replay-tells x entry fits-so;
     ends = ends-well x entry e w;
   }
 
-  walked : VerdictMeans (x .family) (x .code) (x .marks) entry (x .ranges) (verdictIn (codeSize (x .family)) (x .family) (x .code) (x .marks) (x .ranges) entry knowNothing)
-  walked =
-      let w : Walked x entry knowNothing (verdictIn (codeSize (x .family)) (x .family) (x .code) (x .marks) (x .ranges) entry knowNothing)
-      = audit-walks x (fit .bytes) (codeSize (x .family)) entry knowNothing (omega arith) in
-      ended (w .walk) (w .ends)
+  -- what the auditor says
+  abbrev said : Verdict
+  said = verdictIn (codeSize (x .family)) (x .family) (x .code) (x .marks) (x .ranges) entry knowNothing
+
+  walk : Walked x entry knowNothing said
+  walk = audit-walks x (fit .bytes) (codeSize (x .family)) entry knowNothing (omega arith)
+
+  walked : VerdictMeans (x .family) (x .code) (x .marks) entry (x .ranges) said
+  walked = ended (walk .walk) (walk .ends)
+
+  witnessed : OwnLogShows (x .family) (x .code) (x .marks) entry (x .ranges) said
+  witnessed = rw (way-is x (codeSize (x .family)) (walk .walk) (omega arith)) (shown-by x entry fit (walk .walk) (walk .ends))
 
 number-of : (fits : Bool) (v : Verdict) → verdictNumber (cond fits v (faultAt Fault.Input 0)) ≡ cond (not fits) 9 (verdictNumber v)
 number-of true v = refl
@@ -116,24 +118,42 @@ pub audit-numbered : (family : ℕ) (code marks : List ℕ) (entry : ℕ) (range
 unfolding auditOf auditNumber
 audit-numbered family code marks entry ranges = number-of (inputFits family code marks entry ranges) (verdictIn (codeSize family) family code marks ranges entry knowNothing)
 
+module _ (family : ℕ) (code marks : List ℕ) (entry : ℕ) (ranges : List ℕ) (bytes : (i : ℕ) → getD code i 0 < 2 ^ 8) (i : inputFits family code marks entry ranges ≡ true) where
+  abbrev script : Script
+  script = record { family = family; code = code; marks = marks; ranges = ranges }
+
+  fitting : scriptFits family code marks entry ≡ true
+  fitting = both-left (scriptFits family code marks entry) (rangesFit ranges) i
+
+  auditable : Auditable script entry
+  auditable = record { fits = fits-script family code marks entry fitting; bytes = bytes }
+
+  -- the walk to the verdict's place
+  pub audit-walked : Walked script entry knowNothing (auditOf family code marks entry ranges)
+  unfolding auditOf
+  audit-walked = rw i (walk script entry auditable fitting)
+
+  -- and the script's own log shows the verdict, from every start
+  audit-shown : OwnLogShows family code marks entry ranges (auditOf family code marks entry ranges)
+  unfolding auditOf
+  audit-shown = rw i (witnessed script entry auditable fitting)
+
+pub audit-witnessed : (family : ℕ) (code marks : List ℕ) (entry : ℕ) (ranges : List ℕ) → ((i : ℕ) → getD code i 0 < 2 ^ 8)
+    → Witnessed family code marks entry ranges (auditOf family code marks entry ranges)
+audit-witnessed family code marks entry ranges bytes i = audit-shown family code marks entry ranges bytes i
+
 pub demand3 : (family : ℕ) (code marks : List ℕ) (entry : ℕ) (ranges : List ℕ) → ((i : ℕ) → getD code i 0 < 2 ^ 8)
     → Demand3 family code marks entry ranges (auditOf family code marks entry ranges)
 unfolding auditOf
 demand3 family code marks entry ranges bytes = record {
   means =
       cond-elim (VerdictMeans family code marks entry ranges) (inputFits family code marks entry ranges)
-      (λ i. walked x entry (auditable i) (fits i))
+      (λ i. walked x entry (auditable family code marks entry ranges bytes i) (fitting family code marks entry ranges bytes i))
       (λ i. (i, refl));
   input = λ i. rw i refl;
   replays = replay-tells x entry;
-  starts = λ i. starts-in x entry (auditable i);
+  starts = λ i. starts-in x entry (auditable family code marks entry ranges bytes i);
 }
   where
     x : Script
     x = record { family = family; code = code; marks = marks; ranges = ranges }
-
-    fits : inputFits family code marks entry ranges ≡ true → scriptFits family code marks entry ≡ true
-    fits i = both-left (scriptFits family code marks entry) (rangesFit ranges) i
-
-    auditable : inputFits family code marks entry ranges ≡ true → Auditable x entry
-    auditable i = record { fits = fits-script family code marks entry (fits i); bytes = bytes }

@@ -8,8 +8,10 @@ pub mod Agreement
 pub mod Soundness
 pub mod SameWrites
 pub mod Endings
+pub mod WitnessRun
 pub mod WitnessLog
 pub mod Starts
+pub mod Shown
 pub mod Faults
 pub mod ReplayLaws
 pub mod Claim

@@ -14,7 +14,9 @@ use Rattle.fetch.proofs.Places.{size-small}
 use Rattle.log.specs.Log.{Log, logOf}
 use Rattle.log.specs.Validity.{validLog}
 use Rattle.flags.specs.Flags.{overrides1}
-use Rattle.state.specs.Slot.{hasSlot, slotOf}
+use Rattle.state.specs.Slot.{hasSlot, otherOf, slotOf, withSlot}
+use Rattle.state.specs.declared.slots.Mode.{Mode}
+use Rattle.state.specs.declared.slots.Slot.{Slot}
 use Rattle.state.specs.declared.slots.SlotName.{SlotName}
 use Rattle.state.specs.declared.state.State.{State}
 use Rattle.state.proofs.SlotLaws.{has-a}
@@ -22,7 +24,8 @@ use Rattle.verdict.specs.Auditor.{knowNothing}
 use Rattle.script.specs.Input.{marksPlain}
 use Rattle.machine.specs.declared.steps.Stepped.{Stepped}
 use Rattle.run.specs.Run.{begun, nextStep, runFor}
-use Rattle.verdict.specs.Start.{InType, Start}
+use Rattle.verdict.specs.Demand3.{withAddr, withData}
+use Rattle.verdict.specs.Start.{SlotInType, InType, Start}
 use Rattle.script.proofs.Scripts.{Script, Fits, Auditable}
 use Rattle.run.specs.SlotRun.{slotBegun, nextTurn, slotRunFor, slotAtEntry, stateWith, slotRunOf, Holds}
 use Rattle.run.proofs.Held.{filled-size, filledScene, filled-marks, filled-code}
@@ -124,10 +127,10 @@ module _ (x : Script) (entry : ℕ) (fit : Auditable x entry) (addr word : ℕ) 
     not-paused = and-false (pausesMemory (x .family));
   }
 
--- ---- the same in slot B
+-- ---- a start with other slots
 
-abbrev exchanged : State → State
-exchanged s = record {
+abbrev withSlots : State → Slot → Slot → State
+withSlots s a b = record {
   family = s .family;
   code = s .code;
   marks = s .marks;
@@ -136,38 +139,67 @@ exchanged s = record {
   «override_mode» = s .«override_mode»;
   entries = s .entries;
   «entries_high» = s .«entries_high»;
-  a = s .b;
-  b = s .a;
+  a = a;
+  b = b;
 }
 
-start-exchanged : {family : ℕ} {code marks : List ℕ} {entry : ℕ} {s : State} → Start family code marks entry SlotName.A s → hasSlot family SlotName.B ≡ true
-    → Start family code marks entry SlotName.B (exchanged s)
-start-exchanged start there = let i = start .in-type in record {
-  in-type = record {
-    family = i .family;
-    code-size = i .code-size;
-    code-bytes = i .code-bytes;
-    marks-size = i .marks-size;
-    marks-bytes = i .marks-bytes;
-    values = i .values;
-    enables = i .enables;
-    entries = i .entries;
-    entries-high = i .entries-high;
-    a = i .b;
-    b = i .a;
-  };
-  same-family = start .same-family;
-  slot-there = there;
-  uploaded = start .uploaded;
-  as-audited = start .as-audited;
-  executing = start .executing;
-  at-entry = start .at-entry;
-  other-idle = λ _. start .other-idle there;
-  enabled = start .enabled;
-  not-paused = start .not-paused;
+in-type-with : {s : State} {a b : Slot} → InType s → SlotInType a → SlotInType b → InType (withSlots s a b)
+in-type-with i small-a small-b = record {
+  family = i .family;
+  code-size = i .code-size;
+  code-bytes = i .code-bytes;
+  marks-size = i .marks-size;
+  marks-bytes = i .marks-bytes;
+  values = i .values;
+  enables = i .enables;
+  entries = i .entries;
+  entries-high = i .entries-high;
+  a = small-a;
+  b = small-b;
 }
+
+module _ {family : ℕ} {code marks : List ℕ} {entry : ℕ} where
+  start-with : {name : SlotName} {s : State} {a b : Slot} → Start family code marks entry name s → SlotInType a → SlotInType b
+      → (name′ : SlotName) → hasSlot family name′ ≡ true → slotOf (withSlots s a b) name′ .mode ≡ Mode.Running → slotOf (withSlots s a b) name′ .ip .0 ≡ entry
+      → (hasSlot family (otherOf name′) ≡ true → slotOf (withSlots s a b) (otherOf name′) .mode ≡ Mode.Idle) → Start family code marks entry name′ (withSlots s a b)
+  start-with start small-a small-b name′ there runs at idle = record {
+    in-type = in-type-with (start .in-type) small-a small-b;
+    same-family = start .same-family;
+    slot-there = there;
+    uploaded = start .uploaded;
+    as-audited = start .as-audited;
+    executing = runs;
+    at-entry = at;
+    other-idle = idle;
+    enabled = start .enabled;
+    not-paused = start .not-paused;
+  }
+
+  -- the same in slot B
+  start-exchanged : {s : State} → Start family code marks entry SlotName.A s → hasSlot family SlotName.B ≡ true → Start family code marks entry SlotName.B (withSlots s (s .b) (s .a))
+  start-exchanged start there =
+      start-with start (start .in-type .b) (start .in-type .a) SlotName.B there (start .executing) (start .at-entry) (λ _. start .other-idle there)
+
+  -- and with another number in ADDR, or in DATA
+  start-registers : (name : SlotName) {s : State} {addr word : ℕ} → Start family code marks entry name s → (SlotInType (slotOf s name) → (addr < 2 ^ 32) × (word < 2 ^ 32))
+      → Start family code marks entry name (withSlot s name (record { mode = slotOf s name .mode; ip = slotOf s name .ip; addr = record { 0 = addr }; «data» = word }) (s .flags))
+  start-registers SlotName.A start small =
+      let i = start .in-type in
+      let h = small (i .a) in
+      start-with start (record { ip = i .a .ip; addr = h .0; word = h .1 }) (i .b) SlotName.A (start .slot-there) (start .executing) (start .at-entry) (start .other-idle)
+  start-registers SlotName.B start small =
+      let i = start .in-type in
+      let h = small (i .b) in
+      start-with start (i .a) (record { ip = i .b .ip; addr = h .0; word = h .1 }) SlotName.B (start .slot-there) (start .executing) (start .at-entry) (start .other-idle)
+
+  module _ (ranges : List ℕ) {name : SlotName} {s : State} (start : Start family code marks entry name s) where
+    pub start-addr : (addr : ℕ) → addr < 2 ^ 32 → Start family code marks entry name (withAddr family code marks entry ranges name s addr)
+    start-addr addr h = start-registers name start (λ i. (h, i .word))
+
+    pub start-data : (word : ℕ) → word < 2 ^ 32 → Start family code marks entry name (withData family code marks entry ranges name s word)
+    start-data word h = start-registers name start (λ i. (i .addr, h))
 
 -- every slot of the family has a start
 pub starts-in : (x : Script) (entry : ℕ) → Auditable x entry → (name : SlotName) → hasSlot (x .family) name ≡ true → (s : State) × (Start (x .family) (x .code) (x .marks) entry name s)
 starts-in x entry fit SlotName.A there = (someState x entry 0 0, some-start x entry fit 0 0 (lit< tt) (lit< tt))
-starts-in x entry fit SlotName.B there = (exchanged (someState x entry 0 0), start-exchanged (some-start x entry fit 0 0 (lit< tt) (lit< tt)) there)
+starts-in x entry fit SlotName.B there = (withSlots (someState x entry 0 0) _ _, start-exchanged (some-start x entry fit 0 0 (lit< tt) (lit< tt)) there)

@@ -1,4 +1,4 @@
--- The table of starred scripts, by computation. Assumes nothing.
+-- The table of starred scripts and the logs of worked ones, by computation. Assumes nothing.
 use mathlib.Core.Path.{refl}
 use Rattle.families.specs.Family.{byFamily}
 use Rattle.isa.specs.Opcode.{opcodeAt}
@@ -13,6 +13,8 @@ use Rattle.run.specs.Replay.{runAnswerOf}
 use Rattle.run.specs.SlotRun.{slotRunFor}
 use Rattle.verdict.specs.Auditor.{canRelease, verdictIn, auditOf}
 use Rattle.verdict.specs.Starred.{Starred}
+use Rattle.verdict.specs.Witness.{actionsTo}
+use Rattle.verdict.specs.WorkedLogs.{WorkedLogs}
 
 pub starred : Starred
 unfolding auditOf scriptFits rangesFit byFamily verdictIn fetchOf allMarked decodeOf opcodeAt waitClocks canRelease runAnswerOf validLog slotRunFor
@@ -36,3 +38,7 @@ starred = (
   refl,
   refl,
 )
+
+pub worked-logs : WorkedLogs
+unfolding auditOf scriptFits rangesFit byFamily verdictIn fetchOf allMarked decodeOf opcodeAt waitClocks canRelease actionsTo hasReading
+worked-logs = ((refl, refl, refl), (refl, refl, refl), (refl, refl, refl), (refl, refl, refl), (refl, refl, refl))

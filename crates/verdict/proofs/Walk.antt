@@ -1,9 +1,12 @@
 -- The auditor's walk as a derivation, free of its count of what is left: the one thing that every claim is an induction on. Assumes nothing.
 use Prim.Native.Nat.{ℕ, zero, suc, _+_, _^_, _≤_, _<_}
-use mathlib.Core.Path.{_≡_, refl}
+use mathlib.Core.Path.{_≡_, refl, ap}
 use mathlib.Core.Bool.{false, _&&_}
+use mathlib.Core.List.{List, [], _∷_}
 use native.Mathlib.Omega.{arith}
-use lib.ListN.{getD}
+use lib.Dec.{eqb}
+use lib.ListN.{length, getD}
+use borrow.Author.Tests.{eq-eqb, ne-eqb}
 use Rattle.families.specs.Family.{codeSize, pausesMemory}
 use Rattle.isa.specs.declared.instructions.Instruction.{Instruction}
 use Rattle.isa.specs.declared.reader.Decoded.{Decoded}
@@ -12,6 +15,7 @@ use Rattle.fetch.proofs.Places.{fetch-past}
 use Rattle.actions.specs.Action.{actionOf}
 use Rattle.actions.specs.declared.actions.Action.{Action}
 use Rattle.verdict.specs.Auditor.{faultOf, judgeOf, knowNext, passAt, faultAt, verdictIn}
+use Rattle.verdict.specs.Witness.{writesOver, actionsTo, placeOf}
 use Rattle.refusals.specs.declared.refusals.Fault.{Fault}
 use Rattle.verdict.specs.declared.verdicts.Judgement.{Judgement}
 use Rattle.verdict.specs.declared.verdicts.Knowledge.{Knowledge}
@@ -32,17 +36,47 @@ module _ (x : Script) where
     at-bad : {p : ℕ} {k : Knowledge} (action : Action) (n : ℕ) (fault : Fault) → Reads x p action n → Blame (x .family) (x .ranges) action k fault → Ends p k (faultAt fault p)
     at-exit : {p : ℕ} {k : Knowledge} (n : ℕ) → Reads x p Action.Exit n → (pausesMemory (x .family) && k .paused) ≡ false → Ends p k (passAt p k)
 
+  -- what it does
+  abbrev pub actionsOf : {p : ℕ} {k : Knowledge} {q : ℕ} {l : Knowledge} → Walk p k q l → List Action
+  actionsOf here = []
+  actionsOf (more action n e f w) = action ∷ actionsOf w
+
+  pub walk-forward : {p q : ℕ} {k l : Knowledge} → Walk p k q l → p ≤ q
+  walk-forward here = omega arith
+  walk-forward (more action n e f w) = omega (arith, walk-forward w)
+
+  pub walk-counts : {p q : ℕ} {k l : Knowledge} (w : Walk p k q l) → k .count + length (actionsOf w) ≡ l .count
+  walk-counts here = omega arith
+  walk-counts (more action n e f w) = omega (arith, walk-counts w)
+
+  pub walk-writes : {p q : ℕ} {k l : Knowledge} (w : Walk p k q l) → k .writes + writesOver (actionsOf w) ≡ l .writes
+  walk-writes here = omega arith
+  walk-writes (more action n e f w) = omega (arith, walk-writes w)
+
+  -- it is the script's way to where it ends
+  pub way-is : {p q : ℕ} {k l : Knowledge} (left : ℕ) (w : Walk p k q l) → codeSize (x .family) ≤ p + left
+      → actionsTo left (x .family) (x .code) (x .marks) q p ≡ actionsOf w
+  unfolding actionsTo
+  way-is zero here h = refl
+  way-is {p} (suc left) here h = rw (eq-eqb p p refl) refl
+  way-is zero (more action n e f w) h = absurd (omega (arith, e .some, e .inside))
+  way-is {p} {q} (suc left) (more action n e f w) h =
+      let before : eqb p q ≡ false = ne-eqb p q (λ same. omega (arith, walk-forward w, e .some)) in
+      rw (before, e .found, e .acts, actionsTo) (ap (λ (later : List Action). action ∷ later) (way-is left w (omega (arith, e .some))))
+
+  -- the walk to a verdict's place
   pub record Walked (p : ℕ) (k : Knowledge) (verdict : Verdict) : Type 0 where
-    pub place : ℕ
     pub knows : Knowledge
-    pub walk : Walk p k place knows
-    pub ends : Ends place knows verdict
+    pub walk : Walk p k (placeOf verdict) knows
+    pub ends : Ends (placeOf verdict) knows verdict
 
   on : {p : ℕ} {k : Knowledge} {v : Verdict} (action : Action) (n : ℕ) → Reads x p action n → Fine (x .family) (x .ranges) action k → Walked (p + n) (knowNext action k) v → Walked p k v
-  on action n e f w = record { place = w .place; knows = w .knows; walk = more action n e f (w .walk); ends = w .ends }
+  on action n e f w = record { knows = w .knows; walk = more action n e f (w .walk); ends = w .ends }
 
   at-once : {p : ℕ} {k : Knowledge} {v : Verdict} → Ends p k v → Walked p k v
-  at-once {p} {k} e = record { place = p; knows = k; walk = here; ends = e }
+  at-once {p} {k} (at-refused why e) = record { knows = k; walk = here; ends = at-refused why e }
+  at-once {p} {k} (at-bad action n fault e b) = record { knows = k; walk = here; ends = at-bad action n fault e b }
+  at-once {p} {k} (at-exit n e unpaused) = record { knows = k; walk = here; ends = at-exit n e unpaused }
 
   abbrev verdict : ℕ → ℕ → Knowledge → Verdict
   verdict left p k = verdictIn left (x .family) (x .code) (x .marks) (x .ranges) p k

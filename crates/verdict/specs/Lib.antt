@@ -1,4 +1,6 @@
 pub mod Auditor
 pub mod Start
 pub mod Demand3
+pub mod Witness
 pub mod Starred
+pub mod WorkedLogs

@@ -1,15 +1,17 @@
 -- The answer is the defined verdict, and demand 3 holds of that. Assumes nothing.
 use denote.Ref.{now}
-use Prim.Native.Nat.{ℕ}
+use Prim.Native.Nat.{ℕ, _<_, _^_}
 use mathlib.Core.Path.{_≡_, sym, ap, subst, _∙_}
 use mathlib.Core.Bool.{Bool, true, _&&_}
+use lib.ListN.{getD}
 use borrow.Author.Needs.{needs}
 use borrow.Author.Tests.{not-true, not-false}
 use Rattle.verdict.specs.Auditor.{verdictNumber, auditOf}
 use Rattle.verdict.specs.Demand3.{Demand3}
+use Rattle.verdict.specs.Witness.{Witnessed}
 use Rattle.audit.specs.Promises.{Audits}
 use Rattle.verdict.specs.declared.verdicts.Verdict.{Verdict}
-use Rattle.verdict.proofs.Claim.{audit-numbered, demand3}
+use Rattle.verdict.proofs.Claim.{audit-numbered, demand3, audit-witnessed}
 use Rattle.verdict.proofs.Table.{starred}
 use Rattle.audit.proofs.auditor.audit.Statement.{statement}
 use Rattle.audit.proofs.auditor.audit.Tie as tie
@@ -19,11 +21,14 @@ audits : (c : tie.After-shared-slice-known) {r : Verdict} → r ≡ auditOf (c .
     → Audits (c .before .args .family) (now (c .before .args .code)) (now (c .before .args .marks)) (c .before .args .entry .0) (now (c .before .args .ranges)) r
 audits c e =
     let a = c .before .args in
+    let bytes : (i : ℕ) → getD (now (a .code)) i 0 < 2 ^ 8 = λ i. c .shared-slice-known .given i .fits in
     record {
       answered = e;
       numbered = ap verdictNumber e ∙ audit-numbered (a .family) (now (a .code)) (now (a .marks)) (a .entry .0) (now (a .ranges));
       demand3 = subst (Demand3 (a .family) (now (a .code)) (now (a .marks)) (a .entry .0) (now (a .ranges))) (sym e)
-          (demand3 (a .family) (now (a .code)) (now (a .marks)) (a .entry .0) (now (a .ranges)) (λ (i : ℕ). c .shared-slice-known .given i .fits));
+          (demand3 (a .family) (now (a .code)) (now (a .marks)) (a .entry .0) (now (a .ranges)) bytes);
+      witnessed = subst (Witnessed (a .family) (now (a .code)) (now (a .marks)) (a .entry .0) (now (a .ranges))) (sym e)
+          (audit-witnessed (a .family) (now (a .code)) (now (a .marks)) (a .entry .0) (now (a .ranges)) bytes);
       starred = starred;
     }
 
