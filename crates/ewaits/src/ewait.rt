@@ -13,7 +13,7 @@ pub enum Released {
 }
 
 // Whether the row has a reading of the event, and it is the value.
-fn has_reading(known: u32, values: u32, event: u8, value: u8) -> bool
+pub fn has_reading(known: u32, values: u32, event: u8, value: u8) -> bool
     ensures { λ r. ⌜ r ≡ hasReading known values event value ⌝ }
 {
     if 32 <= event {

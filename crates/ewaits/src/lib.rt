@@ -4,3 +4,4 @@ mod row;
 
 pub use ewait::Released;
 pub use ewait::event_wait;
+pub use ewait::has_reading;

@@ -1,0 +1,246 @@
+-- The log that is made row by row, against the rows that the script's way asks for. Assumes nothing.
+use Prim.Native.Nat.{ℕ, _+_, _*_, _^_, _≤_, _<_}
+use mathlib.Core.Path.{_≡_, refl, sym, ap, ap₂, subst, _∙_}
+use mathlib.Core.Bool.{true, false}
+use mathlib.Core.List.{List, [], _∷_, _++_, append-assoc}
+use native.Mathlib.Nat.{add-zero}
+use native.Mathlib.Omega.{arith}
+use lib.ListN.{length, getD, length-append, length-set}
+use denote.Enum.Declared.{tagOf}
+use types.Run.{OneOf}
+use Rattle.families.specs.Family.{codeSize}
+use Rattle.isa.specs.declared.instructions.Instruction.{Instruction}
+use Rattle.isa.specs.declared.reader.Decoded.{Decoded}
+use Rattle.isa.proofs.Tests.{both-left}
+use Rattle.refusals.specs.declared.refusals.Unreadable.{Unreadable}
+use Rattle.fetch.proofs.Places.{size-small}
+use Rattle.log.specs.Log.{Log}
+use Rattle.log.specs.Rows.{rowsInto, withRowsAt}
+use Rattle.log.specs.declared.row.Row.{Row}
+use Rattle.log.proofs.Columns.{Room, SameLengths, rows-lengths, rows-more}
+use Rattle.actions.specs.Action.{actionOf}
+use Rattle.actions.specs.declared.actions.Action.{Action}
+use Rattle.actions.specs.declared.actions.Part.{Part}
+use Rattle.actions.proofs.Variants.{none}
+use Rattle.actions.proofs.actions.Action.{the-type as action-type}
+use Rattle.script.specs.Input.{scriptFits, rangesFit, inputFits}
+use Rattle.script.proofs.Scripts.{Script, fits-script, fetchAt, Reads}
+use Rattle.verdict.specs.Auditor.{pokeCount, waitLength, knowNext, knowNothing, auditOf}
+use Rattle.verdict.specs.Witness.{firstRow, eventRow, releases, rowAfter, rowsLeft, rowsOver, writesOver, placeOf, maxShown}
+use Rattle.verdict.specs.declared.verdicts.Knowledge.{Knowledge}
+use Rattle.audit.proofs.Turns.{poke-small}
+use Rattle.verdict.proofs.Cases.{never}
+use Rattle.verdict.proofs.Judging.{Fine}
+use Rattle.verdict.proofs.Walk.{Walk, here, more, actionsOf, walk-forward, way-is}
+use Rattle.verdict.proofs.Claim.{audit-walked}
+use Rattle.verdict.proofs.WitnessLog.{Bounded, bounded-next, bounded-start, wait-short, Made, made-first, made-after, reads-size}
+use Rattle.witness.specs.Witnesses.{way}
+use Rattle.witness.specs.Inside.{Releasable, withRow, nothingMade, madeAfter, Extends, Follows}
+use Rattle.witness.specs.declared.rows.Timeline.{Timeline}
+
+-- ---- one instruction
+
+module _ (made : Timeline) (old : Log) where
+  -- one step more, in this row, with so many rows before it
+  abbrev pub stepped : Row → ℕ → ℕ → Timeline
+  stepped row rows writes = record { row = row; rows = rows; steps = made .steps + 1; writes = writes }
+
+  pub extends-wait : (action : Action) (n : ℕ) → action ≡ Action.Wait n
+      → Extends action made old old (stepped (record { clocks = made .row .clocks + n; known = made .row .known; values = made .row .values }) (made .rows) (made .writes))
+  extends-wait action n e = rw e (record { made-is = simp add-zero; put = refl })
+
+  pub extends-released : (action : Action) (event value : ℕ) → action ≡ Action.Ewait event value → releases (made .row) event value ≡ true
+      → Extends action made old old (stepped (made .row) (made .rows) (made .writes))
+  extends-released action event value e t = rw e (record { made-is = simp (t, add-zero); put = rw t refl })
+
+  pub extends-begun : (action : Action) (event value : ℕ) → action ≡ Action.Ewait event value → releases (made .row) event value ≡ false
+      → {row : Row} {new : Log} → row ≡ eventRow event value → new ≡ withRow old (made .rows) (made .row)
+      → Extends action made old new (stepped row (made .rows + 1) (made .writes))
+  extends-begun action event value e t r p = rw (e, r) (record { made-is = simp (t, add-zero); put = p ∙ rw t refl })
+
+  pub extends-poke : (action : Action) (part : Part) (word : ℕ) → action ≡ Action.Poke part word
+      → Extends action made old old (stepped (made .row) (made .rows) (made .writes + 1))
+  extends-poke action part word e = rw e (record { made-is = simp add-zero; put = refl })
+
+  pub extends-other : (action : Action) → OneOf (2 ∷ 3 ∷ 5 ∷ []) (tagOf action-type action) → Extends action made old old (stepped (made .row) (made .rows) (made .writes))
+  extends-other (Action.Wait n) h = none (2 ∷ 3 ∷ 5 ∷ []) 0 tt h
+  extends-other (Action.Ewait event value) h = none (2 ∷ 3 ∷ 5 ∷ []) 1 tt h
+  extends-other (Action.Flag change flag) h = record { made-is = simp add-zero; put = refl }
+  extends-other (Action.Load part word) h = record { made-is = simp add-zero; put = refl }
+  extends-other (Action.Poke part word) h = none (2 ∷ 3 ∷ 5 ∷ []) 4 tt h
+  extends-other Action.Exit h = record { made-is = simp add-zero; put = refl }
+
+-- ---- the walk to the place, one instruction at a time
+
+module _ (x : Script) where
+  -- at the place nothing is left of it
+  over : {p q : ℕ} {k l : Knowledge} (w : Walk x p k q l) → p ≡ q → actionsOf x w ≡ []
+  over here same = refl
+  over (more action n e f w) same = absurd (omega (arith, walk-forward x w, e .some))
+
+  -- before it there is an instruction, judged fine
+  record Next {p q : ℕ} {k l : Knowledge} (w : Walk x p k q l) (action : Action) (n : ℕ) : Type 0 where
+    reads : Reads x p action n
+    fine : Fine (x .family) (x .ranges) action k
+    rest : Walk x (p + n) (knowNext action k) q l
+    is : actionsOf x w ≡ action ∷ actionsOf x rest
+
+  next-of : {p q : ℕ} {k l : Knowledge} (w : Walk x p k q l) → (p ≡ q → ⊥) → (i : Instruction) (n : ℕ) → fetchAt x p ≡ Decoded.Instruction i n → Next w (actionOf i) n
+  next-of here apart i n f = absurd (apart refl)
+  next-of (more action m e g w) apart i n f =
+      let which : i ≡ e .instruction = cc (e .found) in
+      let size : n ≡ m = cc (e .found) in
+      let acts : actionOf i ≡ action = ap actionOf which ∙ e .acts in
+      rw (acts, size) (record { reads = e; fine = g; rest = w; is = refl })
+
+  pub never-refused : {p q : ℕ} {k l : Knowledge} (w : Walk x p k q l) → (p ≡ q → ⊥) → (why : Unreadable) → fetchAt x p ≡ Decoded.Refused why → ⊥
+  never-refused here apart why f = apart refl
+  never-refused (more action m e g w) apart why f = never (cc (e .found))
+
+-- ---- the loop
+
+less-room : {m n : ℕ} {lent : Log} → Room n lent → m ≤ n → Room m lent
+less-room r h = record { clocks = omega (arith, r .clocks); known = omega (arith, r .known); values = omega (arith, r .values) }
+
+-- at a place: the rows that were put, and those that the rest of the walk asks for, are the log; and what is counted stays small
+pub record Making (x : Script) (place : ℕ) (way : List Action) (lent log : Log) (at : ℕ) (made : Timeline) : Type 0 where
+  pub knows : Knowledge
+  pub last : Knowledge
+  pub walk : Walk x at knows place last
+  pub before : List Row
+  pub same-rows : before ++ rowsOver (actionsOf x walk) (made .row) ≡ rowsOver way firstRow
+  pub same-steps : made .steps + length (actionsOf x walk) ≡ length way
+  pub same-writes : made .writes + writesOver (actionsOf x walk) ≡ writesOver way
+  pub counted : made .rows ≡ length before
+  pub three-bytes : 3 * length before ≤ at
+  pub low : at ≤ 512
+  pub few-steps : made .steps ≤ at
+  pub few-writes : made .writes ≤ made .steps
+  pub bounded : Bounded at knows
+  pub made-so : Made (knows .clocks) (made .row)
+  pub put : log ≡ rowsInto lent before
+
+pub making-first : {x : Script} {place entry : ℕ} {l : Knowledge} (w : Walk x entry knowNothing place l) (lent : Log) → entry ≤ 511
+    → Making x place (actionsOf x w) lent lent entry nothingMade
+making-first {l = l} w lent h = record {
+  knows = knowNothing;
+  last = l;
+  walk = w;
+  before = [];
+  same-rows = refl;
+  same-steps = omega arith;
+  same-writes = omega arith;
+  counted = refl;
+  three-bytes = omega arith;
+  low = omega arith;
+  few-steps = omega arith;
+  few-writes = omega arith;
+  bounded = bounded-start;
+  made-so = made-first;
+  put = refl;
+}
+
+-- the loop begins so, on its way to the verdict's place
+pub making-begins : (family : ℕ) (code marks : List ℕ) (entry : ℕ) (ranges : List ℕ) → ((i : ℕ) → getD code i 0 < 2 ^ 8) → inputFits family code marks entry ranges ≡ true
+    → (lent : Log) {place : ℕ} {made : Timeline} → place ≡ placeOf (auditOf family code marks entry ranges) → made ≡ nothingMade
+    → Making (record { family = family; code = code; marks = marks; ranges = ranges }) place (way family code marks entry ranges) lent lent entry made
+making-begins family code marks entry ranges bytes fits lent there nothing =
+    let x : Script = record { family = family; code = code; marks = marks; ranges = ranges } in
+    let w = audit-walked family code marks entry ranges bytes fits .walk in
+    let low = fits-script family code marks entry (both-left (scriptFits family code marks entry) (rangesFit ranges) fits) .entry-low in
+    rw (there, nothing, way-is x (codeSize family) w (omega arith)) (making-first w lent low)
+
+module _ {x : Script} {place : ℕ} {all : List Action} {lent log : Log} {at : ℕ} {made : Timeline} (g : Making x place all lent log at made) (room : Room maxShown lent) where
+  few : length (g .before) ≤ 170
+  few = omega (arith, g .three-bytes, g .low)
+
+  pub same-lengths : SameLengths lent log
+  same-lengths = subst (SameLengths lent) (sym (g .put)) (rows-lengths lent (g .before) (less-room room (omega (arith, few))))
+
+  -- the next row has a place in each column
+  pub place-left : (made .rows < length (log .clocks)) × (made .rows < length (log .known)) × (made .rows < length (log .values))
+  place-left =
+      let s = same-lengths in
+      (omega (arith, few, g .counted, s .clocks, room .clocks), omega (arith, few, g .counted, s .known, room .known), omega (arith, few, g .counted, s .values, room .values))
+
+  put-after : (rows : List Row) → length (g .before) + length rows ≤ maxShown → withRowsAt log (made .rows) rows ≡ rowsInto lent (g .before ++ rows)
+  put-after rows h = ap₂ (λ (l : Log) (n : ℕ). withRowsAt l n rows) (g .put) (g .counted) ∙ rows-more lent (g .before) rows (less-room room h)
+
+  -- at the place the present row is the last
+  last-put : at ≡ place → {new : Log} → new ≡ withRow log (made .rows) (made .row) → Follows all lent new made
+  last-put same {new} p =
+      let none-left = over x (g .walk) same in
+      let rows-are : g .before ++ (made .row ∷ []) ≡ rowsOver all firstRow
+      = ap (λ (actions : List Action). g .before ++ rowsOver actions (made .row)) (sym none-left) ∙ g .same-rows in
+      record {
+        counted = omega (arith, ap length rows-are, length-append (g .before) (made .row ∷ []), g .counted);
+        stepped = omega (arith, ap length none-left, g .same-steps);
+        wrote = omega (arith, ap writesOver none-left, g .same-writes);
+        put = p ∙ put-after (made .row ∷ []) (omega (arith, few)) ∙ ap (rowsInto lent) rows-are;
+      }
+
+  pub making-over : at ≡ place → {new : Log} {last : Timeline} → last ≡ made → new ≡ withRow log (last .rows) (last .row) → Follows all lent new last
+  making-over same {new} {last} e p =
+      subst (Follows all lent new) (sym e) (last-put same (p ∙ ap (λ (t : Timeline). withRow log (t .rows) (t .row)) e))
+
+  pub lengths-over : {new : Log} (n : ℕ) (row : Row) → new ≡ withRow log n row → SameLengths lent new
+  lengths-over n row p =
+      let s = same-lengths in
+      rw p (record {
+        clocks = length-set (log .clocks) n (row .clocks) ∙ s .clocks;
+        known = length-set (log .known) n (row .known) ∙ s .known;
+        values = length-set (log .values) n (row .values) ∙ s .values;
+      })
+
+  -- before it one instruction more is done
+  module _ (apart : at ≡ place → ⊥) (i : Instruction) (n : ℕ) (f : fetchAt x at ≡ Decoded.Instruction i n) where
+    abbrev action : Action
+    action = actionOf i
+
+    step : Next x (g .walk) action n
+    step = next-of x (g .walk) apart i n f
+
+    pub inside : (0 < n) × (at + n ≤ 512)
+    inside = let e = step .reads in (e .some, omega (arith, e .inside, size-small (x .family)))
+
+    pub counts-fit : (made .rows < 1024) × (made .steps < 1024) × (made .writes < 1024) × (made .row .clocks + waitLength action < 2 ^ 64) × (Releasable action)
+    counts-fit =
+        let short = wait-short action (step .reads .formed) in (
+          omega (arith, few, g .counted),
+          omega (arith, g .few-steps, g .low),
+          omega (arith, g .few-writes, g .few-steps, g .low),
+          omega (arith, g .made-so .most, g .bounded .clocks, g .bounded .count, g .low, short),
+          step .fine .event,
+        )
+
+    making-on : {new : Log} → new ≡ withRowsAt log (made .rows) (rowsLeft action (made .row)) → Making x place all lent new (at + n) (madeAfter action made)
+    making-on p =
+        let left = rowsLeft action (made .row) in
+        let later = rowsOver (actionsOf x (step .rest)) (rowAfter action (made .row)) in
+        let size = reads-size x (step .reads) (made .row) in
+        let here : rowsOver (actionsOf x (g .walk)) (made .row) ≡ left ++ later = ap (λ (actions : List Action). rowsOver actions (made .row)) (step .is) in
+        let sum = length-append (g .before) left in
+        record {
+          knows = knowNext action (g .knows);
+          last = g .last;
+          walk = step .rest;
+          before = g .before ++ left;
+          same-rows = append-assoc (g .before) left later ∙ ap (λ (l : List Row). g .before ++ l) (sym here) ∙ g .same-rows;
+          same-steps = omega (arith, ap length (step .is), g .same-steps);
+          same-writes = omega (arith, ap writesOver (step .is), g .same-writes);
+          counted = omega (arith, sum, g .counted);
+          three-bytes = omega (arith, sum, g .three-bytes, size);
+          low = inside .1;
+          few-steps = omega (arith, g .few-steps, inside .0);
+          few-writes = omega (arith, g .few-writes, poke-small action);
+          bounded = bounded-next action (step .reads .formed) (step .reads .some) (g .bounded);
+          made-so = made-after action (made .row) (g .knows .clocks) (step .fine .event) (g .made-so);
+          put = p ∙ put-after left (omega (arith, g .three-bytes, size, inside .1));
+        }
+
+    -- the same of what the loop's calls gave
+    pub making-next : {new : Log} {did : Action} {made′ : Timeline} → did ≡ action → Extends did made log new made′ → Making x place all lent new (at + n) made′
+    making-next {new} {did} {made′} same e =
+        let becomes : made′ ≡ madeAfter action made = e .made-is ∙ ap (λ (a : Action). madeAfter a made) same in
+        subst (Making x place all lent new (at + n)) (sym becomes)
+        (making-on (e .put ∙ ap (λ (a : Action). withRowsAt log (made .rows) (rowsLeft a (made .row))) same))

@@ -1,0 +1,72 @@
+-- Each arm makes of the log what the definition says of its action. Assumes nothing.
+use denote.Ref.{now}
+use mathlib.Core.Path.{sym, ap, _∙_}
+use native.Mathlib.Omega.{arith}
+use borrow.Author.Needs.{needs}
+use Rattle.log.specs.Log.{logOf}
+use Rattle.verdict.specs.Auditor.{waitLength}
+use Rattle.witness.proofs.Making.{extends-wait, extends-released, extends-begun, extends-poke, extends-other}
+use Rattle.witness.proofs.rows.extend.Statement.{statement}
+use Rattle.witness.proofs.rows.extend.Tie as tie
+
+-- where an arm begins, and what the function was given
+module _ (c : tie.After-struct-known) where
+  abbrev start : tie.Start
+  start = c .before .before .before .before .before
+
+-- a wait's clocks still fit
+add-t15 : tie.Need-add-t15
+add-t15 c =
+    let told = c .before .before in
+    omega (arith, ap waitLength (told .action .given .1), start (told .before .before) .pre .6)
+
+returns : tie.Need-returns
+returns c =
+    let told = c .before .before .before in
+    extends-released _ _ _ _ _ (told .action2 .given .1) (sym (c .before .has-reading .ensures) ∙ c .if1 .taken)
+
+event-row-requires : tie.Need-event-row-requires
+event-row-requires c κs =
+    let told = c .before .before .before .before .before .before .before .before .before .before .before .before .before in
+    start (told .before .before) .pre .7 _ _ (told .action2 .given .1)
+
+returns-2 : tie.Need-returns-2
+returns-2 c = extends-wait _ _ _ _ (c .before .before .action .given .1)
+
+returns-3 : tie.Need-returns-3
+returns-3 c =
+    let put = c .before .before .before .before .before .before .before in
+    let kept = put .before .before .before .before in
+    let told = kept .before .before .before in
+    let a = start (told .before .before) .args in
+    extends-begun (a .made) (logOf (now (a .clocks)) (now (a .known)) (now (a .values))) _ _ _ (told .action2 .given .1)
+    (sym (kept .before .has-reading .ensures) ∙ kept .if1 .left) (c .event-row .ensures) (put .put-row .ensures)
+
+returns-4 : tie.Need-returns-4
+returns-4 c = extends-poke _ _ _ _ _ (c .enum-told .given .1)
+
+returns-5 : tie.Need-returns-5
+returns-5 c = extends-other _ _ _ (c .match .keys4)
+
+pub extend-spec : {M : Type 1} → statement M
+extend-spec =
+    tie.close
+    (tie.spec
+    (λ c. search needs)
+    (λ c. search needs)
+    add-t15
+    (λ c. search needs)
+    (λ c κs. search needs)
+    returns
+    (λ c κs. search needs)
+    event-row-requires
+    (λ c. search needs)
+    (λ c. search needs)
+    (λ c. search needs)
+    returns-2
+    (λ c. search needs)
+    (λ c. search needs)
+    (λ c. search needs)
+    returns-3
+    returns-4
+    returns-5)

@@ -1,0 +1,129 @@
+// The log as it is made, one instruction after the other.
+ghost use mathlib.Core.Path.{_≡_};
+ghost use mathlib.Core.Bool.{true};
+ghost use Prim.Native.Nat.{_+_, _^_, _<_};
+ghost use lib.ListN.{length};
+ghost use Rattle.log.specs.Log.{logOf};
+ghost use Rattle.verdict.specs.Auditor.{canRelease, waitLength};
+ghost use Rattle.verdict.specs.Witness.{firstRow, eventRow};
+ghost use Rattle.witness.specs.Inside.{Releasable, withRow, nothingMade, Extends};
+use actions::Action;
+use log::Row;
+
+// The log as far as it is made: the present row, how many stand before it, and the steps and writes up to here.
+pub struct Timeline {
+    pub row: Row,
+    pub rows: usize,
+    pub steps: usize,
+    pub writes: usize,
+}
+
+// At the entry: one clock, and no event has a reading.
+pub fn begin() -> Timeline
+    ensures { λ r. ⌜ r ≡ nothingMade ⌝ }
+{
+    let row = Row {
+        clocks: 1,
+        known: 0,
+        values: 0,
+    };
+    Timeline {
+        row,
+        rows: 0,
+        steps: 0,
+        writes: 0,
+    }
+}
+
+// A row of one clock in which the event has this reading, and no other has any.
+fn event_row(event: u8, value: u8) -> Row
+    requires { ⌜ canRelease event value ≡ true ⌝ }
+    ensures { λ r. ⌜ r ≡ eventRow event value ⌝ }
+{
+    let bit: u32 = 1 << (event as u32);
+    Row {
+        clocks: 1,
+        known: bit,
+        values: (value as u32) * bit,
+    }
+}
+
+// Puts a row into the lent columns.
+pub(crate) fn put_row(
+    row: Row,
+    at: usize,
+    clocks: &mut [u64],
+    known: &mut [u32],
+    values: &mut [u32],
+)
+    requires { ⌜ (at < length (now clocks)) × (at < length (now known)) × (at < length (now values)) ⌝ }
+    ensures { λ r. ⌜ logOf (now (clocks .exit)) (now (known .exit)) (now (values .exit))
+        ≡ withRow (logOf (now (clocks .entry)) (now (known .entry)) (now (values .entry))) at row ⌝ }
+{
+    clocks[at] = row.clocks;
+    known[at] = row.known;
+    values[at] = row.values;
+}
+
+// One instruction more: a wait makes the row longer, an ewait that it does not release begins the next.
+pub(crate) fn extend(
+    action: Action,
+    made: Timeline,
+    clocks: &mut [u64],
+    known: &mut [u32],
+    values: &mut [u32],
+) -> Timeline
+    requires { ⌜ (made .rows < length (now clocks)) × (made .rows < length (now known)) × (made .rows < length (now values))
+        × (made .rows < 1024) × (made .steps < 1024) × (made .writes < 1024) × (made .row .clocks + waitLength action < 2 ^ 64) × (Releasable action) ⌝ }
+    ensures { λ r. ⌜ Extends action made (logOf (now (clocks .entry)) (now (known .entry)) (now (values .entry)))
+        (logOf (now (clocks .exit)) (now (known .exit)) (now (values .exit))) r ⌝ }
+{
+    let row = made.row;
+    let rows = made.rows;
+    let steps = made.steps + 1;
+    let writes = made.writes;
+    match action {
+        Action::Wait(n) => {
+            let longer = Row {
+                clocks: row.clocks + n,
+                known: row.known,
+                values: row.values,
+            };
+            Timeline {
+                row: longer,
+                rows,
+                steps,
+                writes,
+            }
+        }
+        Action::Ewait(event, value) => {
+            if ewaits::has_reading(row.known, row.values, event, value) {
+                return Timeline {
+                    row,
+                    rows,
+                    steps,
+                    writes,
+                };
+            }
+            put_row(row, rows, clocks, known, values);
+            Timeline {
+                row: event_row(event, value),
+                rows: rows + 1,
+                steps,
+                writes,
+            }
+        }
+        Action::Poke(_, _) => Timeline {
+            row,
+            rows,
+            steps,
+            writes: writes + 1,
+        },
+        _ => Timeline {
+            row,
+            rows,
+            steps,
+            writes,
+        },
+    }
+}
