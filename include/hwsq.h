@@ -5,7 +5,7 @@
  * All calls
  * - No call keeps or frees a pointer, allocates, or has state of its own; calls may run on several threads at once.
  * - A pointer is followed by the number of elements that it points to. It is not null, also where that number is 0, and
- *   lies as its type must. What is lent for writing (`out`, `writes`) overlaps nothing else that the call is given.
+ *   lies as its type must. What is lent for writing (`out`, `writes`, columns) overlaps nothing else that the call is given.
  * - Each call takes every other input: what cannot be done is refused by a number. `refusal` (in a verdict: `verdict`) is 0
  *   where the call was done.
  * - A refused call leaves what it was lent as it was. In its reply the other members are 0, but for those that are named
@@ -34,7 +34,7 @@ enum hwsq_refusal {
     HWSQ_NOT_ON_FAMILY = 11,   /* writer: no such instruction on the family, or no such kind at all */
     HWSQ_BAD_OPERAND = 12,     /* writer: an operand that the instruction has no room for */
     HWSQ_FEW_BYTES = 13,       /* writer: fewer bytes lent than needed */
-    HWSQ_FEW_ENTRIES = 14,     /* replay: fewer than 340 entries lent */
+    HWSQ_FEW_ENTRIES = 14,     /* replay: fewer than 340 entries lent; witness: fewer than 171 in a column */
     HWSQ_BAD_LOG = 15,         /* replay, step: no log, or a place outside it */
     HWSQ_BAD_GATE = 16,        /* sample: gate or calibration not fit, or no such gate */
     HWSQ_BAD_REGISTER = 27,    /* host: no register of the family that can be written, or read */
@@ -100,6 +100,33 @@ struct hwsq_verdict {
  * over 64 ranges, a first without its last or above it. */
 struct hwsq_verdict hwsq_audit(uint8_t family, const uint8_t *code, size_t code_len, const uint8_t *marks,
                                size_t marks_len, size_t entry, const uint32_t *ranges, size_t ranges_len);
+
+/* The entries that hwsq_witness asks for in each column: one row at the entry, and one for each ewait of three bytes. */
+#define HWSQ_SHOWN_ROWS 171
+
+struct hwsq_shown {
+    uint8_t refusal;
+    uint8_t verdict; /* this, place, count and clocks as in hwsq_verdict */
+    uint32_t addr;   /* of 4 ADDR, of 5 DATA of a second start, else both 0; the first start has 0 in both */
+    uint32_t data;
+    size_t place;
+    size_t count;
+    uint64_t clocks;
+    size_t rows;   /* entries 0 to rows - 1 of each column are the log */
+    size_t steps;  /* so many steps bring every start to place; the next one shows the fault, or is exit's */
+    size_t writes; /* register writes made by these steps */
+};
+
+/* The verdict on a script, and a log that shows it (docs/LIBRARY.md): under that log so many steps bring every start to the
+ * place, in whichever slot, and the next step shows the fault. Of 4 and 5 that step writes at an address, or a word, with the
+ * high half that the start's ADDR, or DATA, had: with 0 there and with addr, or data, it writes differently. A start is a state
+ * with the script uploaded, one slot running at the entry, HWSQ_ENABLE 1 and memory not paused. The log is valid for hwsq_replay
+ * and hwsq_step; the entries past it stay as lent. Refuses, in this order: 9 as hwsq_audit does; 14 fewer than 171 entries lent
+ * in a column. Refused, it writes nothing. */
+struct hwsq_shown hwsq_witness(uint8_t family, const uint8_t *code, size_t code_len, const uint8_t *marks,
+                               size_t marks_len, size_t entry, const uint32_t *ranges, size_t ranges_len,
+                               uint64_t *clocks, size_t clocks_len, uint32_t *known, size_t known_len, uint32_t *values,
+                               size_t values_len);
 
 /* ---- replay ---- */
 

@@ -4,6 +4,8 @@
 
 /// The entries that a replay asks for.
 pub const ENTRIES: usize = 340;
+/// The entries that a witness asks for in each column.
+pub const SHOWN_ROWS: usize = 171;
 /// The bytes that a report asks for.
 pub const REPORT_SIZE: usize = 65536;
 
@@ -32,6 +34,21 @@ pub struct Verdict {
     pub count: usize,
     pub writes: usize,
     pub clocks: u64,
+}
+
+#[repr(C)]
+#[derive(Clone, Copy, Debug, PartialEq, Eq)]
+pub struct Shown {
+    pub refusal: u8,
+    pub verdict: u8,
+    pub addr: u32,
+    pub data: u32,
+    pub place: usize,
+    pub count: usize,
+    pub clocks: u64,
+    pub rows: usize,
+    pub steps: usize,
+    pub writes: usize,
 }
 
 #[repr(C)]
@@ -133,6 +150,22 @@ mod raw {
             ranges: *const u32,
             ranges_len: usize,
         ) -> Verdict;
+        pub fn hwsq_witness(
+            family: u8,
+            code: *const u8,
+            code_len: usize,
+            marks: *const u8,
+            marks_len: usize,
+            entry: usize,
+            ranges: *const u32,
+            ranges_len: usize,
+            clocks: *mut u64,
+            clocks_len: usize,
+            known: *mut u32,
+            known_len: usize,
+            values: *mut u32,
+            values_len: usize,
+        ) -> Shown;
         pub fn hwsq_replay(
             family: u8,
             code: *const u8,
@@ -201,6 +234,13 @@ pub struct Log<'a> {
     pub values: &'a [u32],
 }
 
+/// Columns that are lent for a log.
+pub struct Columns<'a> {
+    pub clocks: &'a mut [u64],
+    pub known: &'a mut [u32],
+    pub values: &'a mut [u32],
+}
+
 pub fn decode(family: u8, bytes: &[u8]) -> Decoded {
     unsafe { raw::hwsq_decode(family, bytes.as_ptr(), bytes.len()) }
 }
@@ -221,6 +261,30 @@ pub fn audit(script: Script, ranges: &[u32]) -> Verdict {
             entry,
             ranges.as_ptr(),
             ranges.len(),
+        )
+    }
+}
+
+/// The log that shows the verdict is in the first `rows` entries of the columns.
+pub fn witness(script: Script, ranges: &[u32], columns: Columns) -> Shown {
+    let Script { family, code, marks, entry } = script;
+    let Columns { clocks, known, values } = columns;
+    unsafe {
+        raw::hwsq_witness(
+            family,
+            code.as_ptr(),
+            code.len(),
+            marks.as_ptr(),
+            marks.len(),
+            entry,
+            ranges.as_ptr(),
+            ranges.len(),
+            clocks.as_mut_ptr(),
+            clocks.len(),
+            known.as_mut_ptr(),
+            known.len(),
+            values.as_mut_ptr(),
+            values.len(),
         )
     }
 }

@@ -1,0 +1,19 @@
+-- Assumes nothing.
+use borrow.Author.Needs.{needs}
+use Rattle.capi_audit.proofs.Passing.{witness-passed}
+use Rattle.capi_audit.proofs.showing.hwsq_witness.Statement.{statement}
+use Rattle.capi_audit.proofs.showing.hwsq_witness.Tie as tie
+
+returns : tie.Need-returns
+returns c = witness-passed (c .before .before .before .before .before .before .before .witness .ensures) (c .witness-reply .ensures)
+
+pub hwsq-witness-spec : {M : Type 1} → statement M
+hwsq-witness-spec =
+    tie.close
+    (tie.spec
+    (λ c κs. search needs)
+    (λ c κs. search needs)
+    (λ c. search needs)
+    (λ c. search needs)
+    (λ c. search needs)
+    returns)
