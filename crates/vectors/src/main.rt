@@ -6,6 +6,7 @@ mod logs;
 mod ram;
 mod scripts;
 mod show;
+mod witnesses;
 mod words;
 
 ghost use mathlib.Core.Path.{_≡_};
@@ -81,7 +82,7 @@ fn call(bench: Bench, line: &[u8], words: Words, head: Head) -> Bench {
 fn number_of(name: u64) -> usize {
     words::place_of(
         name,
-        b"write force raw high step place fresh log rows read slots family clocks decode encode gate audit audit_part audit_hole audit_input replay replay_part replay_hole replay_input listed other",
+        b"write force raw high step place fresh log rows read slots family clocks decode encode gate audit audit_part audit_hole audit_input replay replay_part replay_hole replay_input witness witness_part witness_hole witness_input listed other",
     )
 }
 
@@ -92,7 +93,8 @@ fn tell(call: usize, bench: Bench, line: &[u8], words: Words, head: Head) {
         10 => bench::slots(bench.state),
         11..=15 => tell_alone(call, line, head),
         16..=23 => scripts::answer(call, bench.log, line, words, head),
-        24 => scripts::listed(words, head),
+        24..=27 => witnesses::answer(call, line, words, head),
+        28 => scripts::listed(words, head),
         _ => show::word(b" unknown call"),
     }
 }

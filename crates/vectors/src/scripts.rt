@@ -52,7 +52,7 @@ pub(crate) fn answer(call: usize, log: Log, line: &[u8], words: Words, head: Hea
 }
 
 // The word after the RAM.
-fn after_ram(kind: usize) -> usize
+pub(crate) fn after_ram(kind: usize) -> usize
     ensures { λ r. ⌜ r ≤ 10 ⌝ }
 {
     match kind {
@@ -77,7 +77,7 @@ fn judge(ram: Ram, words: Words, k: usize, family: u8, entry: usize)
     show_verdict(audit::audit(family, code_part, marks_part, CodeAddress(entry), ranges));
 }
 
-fn show_verdict(verdict: Verdict) {
+pub(crate) fn show_verdict(verdict: Verdict) {
     match verdict {
         Verdict::Pass {
             place,

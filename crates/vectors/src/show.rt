@@ -103,3 +103,18 @@ pub(crate) fn entries(entries: &[u32], count: usize) {
 fn entry(n: u32) {
     form(b" #", 0, n as u64, 0, 0, 0);
 }
+
+// The same of numbers, in decimal.
+pub(crate) fn numbers(entries: &[u64], count: usize) {
+    let mut i = 0;
+    while i < entries.len() {
+        if i < count {
+            number_entry(entries[i]);
+        }
+        i += 1;
+    }
+}
+
+fn number_entry(n: u64) {
+    form(b" %", 0, n, 0, 0, 0);
+}

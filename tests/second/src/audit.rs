@@ -6,7 +6,8 @@ mod ranges;
 mod replay;
 mod start;
 
-pub use auditor::{audit, Fault, Pass};
+pub(crate) use auditor::place_of;
+pub use auditor::{audit, Fault, Pass, Verdict};
 pub use input::Script;
 pub use ranges::{listed, MOST_RANGES};
 pub use replay::{replay, run, Ending, Replayed, Run, WRITE_ENTRIES};

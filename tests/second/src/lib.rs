@@ -1,4 +1,4 @@
-//! An independent reading of the sequencer papers: auditor, step machine, replay, probe gates and jobs.
+//! An independent reading of the sequencer papers: auditor, machine, replay, witness, gates, jobs.
 
 pub mod audit;
 mod fetch;
@@ -14,5 +14,7 @@ pub mod more_log;
 pub mod probe;
 pub mod refusal;
 pub mod show;
+pub mod shows;
+pub mod witness;
 
 pub use refusal::Refusal;

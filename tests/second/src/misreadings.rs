@@ -30,6 +30,8 @@ pub enum Misreading {
     WaitMeasuredByLength,
     /// Filling in takes the other value for a reading the row had already.
     KnownReadingChanged,
+    /// The log that shows a verdict reads every event as 0, whatever value is awaited.
+    WitnessReadsZero,
 }
 
 /// Every misreading.
@@ -47,6 +49,7 @@ pub const ALL: &[Misreading] = &[
     Misreading::AbortHangs,
     Misreading::WaitMeasuredByLength,
     Misreading::KnownReadingChanged,
+    Misreading::WitnessReadsZero,
 ];
 
 #[cfg(feature = "misreadings")]
@@ -66,6 +69,7 @@ impl Misreading {
             Misreading::AbortHangs => "abort hangs",
             Misreading::WaitMeasuredByLength => "a wait measured by its length",
             Misreading::KnownReadingChanged => "a known reading changed",
+            Misreading::WitnessReadsZero => "a witness reads every event as 0",
         }
     }
 }

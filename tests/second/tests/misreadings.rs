@@ -4,11 +4,13 @@ use second::audit::{audit, replay, Registers, Replayed, Script, WRITE_ENTRIES};
 use second::isa::{code_size, decode, encode, CodeAddress, Instruction, MmioAddress};
 use second::job::report;
 use second::log::Columns;
-use second::machine::{host_read, host_write, State};
+use second::machine::{host_read, host_write, Activity, Slot, State};
 use second::misreadings::{misread, Misreading, ALL};
 use second::more_log::{filled_in, keeps_writes, never_later, wait_ends, Masks, WaitEnd};
 use second::probe::{read, Calibration, Gate};
 use second::show;
+use second::shows::shows;
+use second::witness::{witness, Lent, Witness};
 use std::thread;
 
 /// A small input with its answer by the papers and by the misreading it shows.
@@ -128,6 +130,26 @@ const CASES: &[Case] = &[
         answer: filled_in_again,
         right: "writes kept: true",
         wrong: "writes kept: false",
+    },
+    Case {
+        shows: Misreading::WitnessReadsZero,
+        answer: || log_of(b"\x01\x5f\x01\x01\x5f\x02\x00\xff"),
+        right: "33 00000000 00000000, 1 00000002 00000002, 1 00000004 00000000",
+        wrong: "33 00000000 00000000, 1 00000002 00000000, 1 00000004 00000000",
+    },
+    // A row that reads 0 releases no ewait for 1, and so it doesn't stand for the next one either.
+    Case {
+        shows: Misreading::WitnessReadsZero,
+        answer: || log_of(b"\x5f\x01\x01\x5f\x01\x01\x7f"),
+        right: "1 00000000 00000000, 1 00000002 00000002",
+        wrong: "1 00000000 00000000, 1 00000002 00000000, 1 00000002 00000000",
+    },
+    Case {
+        shows: Misreading::WitnessReadsZero,
+        answer: || shown(b"\x5f\x01\x01\xff"),
+        right: "Ok(None)",
+        wrong: "Err(NotAtPlace(SlotState { ip: CodeAddress(3), addr: MmioAddress(0), data: 0, \
+                activity: Waiting }))",
     },
 ];
 
@@ -287,6 +309,38 @@ fn filled_in_again() -> String {
         "writes kept: {}",
         keeps_writes(&writes(row), &writes(filled))
     )
+}
+
+/// The witness of a script of family 2 without ranges, and its log.
+fn witnessed(bytes: &[u8]) -> (Witness, Vec<(u64, u32, u32)>) {
+    let (mut clocks, mut known, mut values) = ([0; 171], [0; 171], [0; 171]);
+    let lent = Lent {
+        clocks: &mut clocks,
+        known: &mut known,
+        values: &mut values,
+    };
+    let claim = on_script(2, bytes, |script| witness(script, &[], lent)).unwrap();
+    let rows = (0..claim.rows).map(|row| (clocks[row], known[row], values[row]));
+    (claim, rows.collect())
+}
+
+fn log_of(bytes: &[u8]) -> String {
+    let (_, rows) = witnessed(bytes);
+    let rows = rows.iter().map(|(c, k, v)| format!("{c} {k:08x} {v:08x}"));
+    rows.collect::<Vec<_>>().join(", ")
+}
+
+/// Whether the log of such a script shows its verdict in slot A.
+fn shown(bytes: &[u8]) -> String {
+    let (claim, rows) = witnessed(bytes);
+    let mut start = State::fresh(2).unwrap();
+    start.code[..bytes.len()].copy_from_slice(bytes);
+    start.marks[..128].fill(1);
+    start.slot_mut(Slot::A).activity = Activity::Fetching;
+    let answer = on_log(2, bytes, &rows, |_, columns| {
+        shows(&start, Slot::A, columns, &[], claim)
+    });
+    format!("{answer:?}")
 }
 
 /// One test for all, since they share what is in force.

@@ -22,6 +22,14 @@ pub struct Fault {
     pub place: CodeAddress,
 }
 
+/// What an audit says.
+pub type Verdict = Result<Pass, Fault>;
+
+/// The place of a verdict: the exit's or the fault's.
+pub(crate) fn place_of(verdict: Verdict) -> CodeAddress {
+    verdict.map_or_else(|fault| fault.place, |pass| pass.place)
+}
+
 /// What the script has done so far.
 #[derive(Default)]
 struct Seen {
@@ -35,7 +43,7 @@ struct Seen {
 }
 
 /// Audits a script.
-pub fn audit(script: Script, ranges: &[u32]) -> Result<Pass, Fault> {
+pub fn audit(script: Script, ranges: &[u32]) -> Verdict {
     let unfit = |number| Fault {
         number,
         place: CodeAddress(0),

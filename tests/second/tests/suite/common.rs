@@ -1,9 +1,10 @@
 //! Helpers of the tests.
 
-use second::audit::{self, audit, replay, Fault, Pass, Registers, Replayed, WRITE_ENTRIES};
+use second::audit::{self, audit, replay, Registers, Replayed, Verdict, WRITE_ENTRIES};
 use second::isa::{code_size, encode, CodeAddress, Instruction, MmioAddress};
 use second::log::Columns;
 use second::machine::{Activity, Slot, State};
+use second::witness::{witness, Lent, Witness, LOG_ENTRIES};
 use second::Refusal;
 
 pub const ALL: &[u32] = &[0, u32::MAX];
@@ -70,16 +71,22 @@ impl Script {
         }
     }
 
-    pub fn audit(&self, ranges: &[u32]) -> Result<Pass, Fault> {
+    pub fn audit(&self, ranges: &[u32]) -> Verdict {
         audit(self.slices(), ranges)
     }
 
     /// The verdict as a number and a place.
     pub fn verdict(&self, ranges: &[u32]) -> (u8, u32) {
-        match self.audit(ranges) {
-            Ok(pass) => (0, pass.place.0),
-            Err(fault) => (fault.number.number(), fault.place.0),
-        }
+        number_and_place(self.audit(ranges))
+    }
+
+    /// The witness and its log; looks that the other lent entries stay.
+    pub fn witness(&self, ranges: &[u32]) -> (Witness, Rows) {
+        let mut lent = Rows::junk(LOG_ENTRIES + 2);
+        let witness = witness(self.slices(), ranges, lent.lend()).unwrap();
+        let rest = lent.split_off(witness.rows);
+        assert_eq!(rest, Rows::junk(LOG_ENTRIES + 2 - witness.rows));
+        (witness, lent)
     }
 
     /// A machine about to run the script in a slot.
@@ -110,8 +117,15 @@ impl Script {
     }
 }
 
+pub fn number_and_place(verdict: Verdict) -> (u8, u32) {
+    match verdict {
+        Ok(pass) => (0, pass.place.0),
+        Err(fault) => (fault.number.number(), fault.place.0),
+    }
+}
+
 /// Log columns that own their rows.
-#[derive(Clone, Debug, Default)]
+#[derive(Clone, Debug, Default, PartialEq, Eq)]
 pub struct Rows {
     pub clocks: Vec<u64>,
     pub known: Vec<u32>,
@@ -133,6 +147,29 @@ impl Rows {
             clocks: &self.clocks,
             known: &self.known,
             values: &self.values,
+        }
+    }
+
+    /// Entries to lend, such as no log has.
+    pub fn junk(entries: usize) -> Rows {
+        Rows::new(&vec![(0, 0xdead_beef, 0xbeef_dead); entries])
+    }
+
+    /// The columns as they are lent for a log.
+    pub fn lend(&mut self) -> Lent<'_> {
+        Lent {
+            clocks: &mut self.clocks,
+            known: &mut self.known,
+            values: &mut self.values,
+        }
+    }
+
+    /// Keeps the first rows and gives the others.
+    pub fn split_off(&mut self, rows: usize) -> Rows {
+        Rows {
+            clocks: self.clocks.split_off(rows),
+            known: self.known.split_off(rows),
+            values: self.values.split_off(rows),
         }
     }
 

@@ -1,12 +1,15 @@
 //! What a comparison from outside takes apart: each field is named, so that a private one won't build.
 
 use crate::common::{Rows, Script};
-use second::audit::{Replayed, Run};
+use second::audit::{Fault, Replayed, Run};
 use second::isa::{CodeAddress, MmioAddress, LARGEST_CODE};
 use second::job::{parse, Job};
 use second::log::{Columns, Place};
 use second::machine::{step, Activity, Did, Slot, SlotState, State, Step};
 use second::probe::{read, Calibration, Gate};
+use second::shows::{shows, After, Doubt};
+use second::witness::{witness, Lent, Witness};
+use second::Refusal;
 
 /// A state as anyone outside may put it together.
 fn stepped(code: [u8; LARGEST_CODE], activity: Activity) -> State {
@@ -85,6 +88,49 @@ fn whole_replays_and_jobs_compare() {
     } = parse(b"\x04\x02\x02\x0c\x13\0\0\x03\0\0\0\0").unwrap();
     assert_eq!(state.slots[0].activity, Activity::Fetching);
     assert!(ranges.is_empty() && clocks.is_empty() && known.is_empty() && values.is_empty());
+}
+
+/// What a witness claims of set1 16 and exit, if that is this fault at the exit.
+fn claimed(number: Refusal) -> Witness {
+    let place = CodeAddress(1);
+    Witness {
+        verdict: Err(Fault { number, place }),
+        rows: 1,
+        steps: 1,
+        writes: 0,
+    }
+}
+
+#[test]
+fn whole_witnesses_and_doubts_compare() {
+    let script = Script::new(2, "b0 7f");
+    let (clocks, known, values) = (&mut [0; 171], &mut [0; 172], &mut [0; 173]);
+    let lent = Lent {
+        clocks,
+        known,
+        values,
+    };
+    let claim = claimed(Refusal::PausedAtExit);
+    assert_eq!(witness(script.slices(), &[], lent), Ok(claim));
+    let columns = Columns {
+        clocks,
+        known,
+        values,
+    };
+    let answer = |claim| shows(&script.start(Slot::A), Slot::A, columns, &[], claim);
+    assert_eq!(answer(claim), Ok(None));
+    let slot = SlotState {
+        ip: CodeAddress(1),
+        ..SlotState::default()
+    };
+    let after = After {
+        did: Did::Done,
+        slot,
+        memory_paused: true,
+        log_used_up: false,
+    };
+    let doubt = Doubt::NotShown(after);
+    assert_eq!(answer(claimed(Refusal::NotListed)), Err(doubt));
 }
 
 #[test]

@@ -14,5 +14,8 @@ mod more_log_laws;
 mod probe;
 mod replay;
 mod show;
+mod shows;
 mod step;
 mod vectors;
+mod witness;
+mod witness_laws;

@@ -33,7 +33,7 @@ fn ends_agree_with_replays() {
 }
 
 /// A script that passes: what its pokes need, then instructions that mostly wait.
-fn passing(random: &mut Random, family: u8) -> Script {
+pub fn passing(random: &mut Random, family: u8) -> Script {
     let mut script = Script::new(family, "");
     let mut instructions = vec![];
     if family > 1 {

@@ -60,7 +60,15 @@ fn comments_stand_as_they_are() {
 #[test]
 fn unknown_calls_are_answered() {
     let many = "x".to_string() + &" y".repeat(1200);
-    for line in ["frob", "frob  1 ", "Family 1", "entry 0", " ", &many] {
+    let names = ["frob", "frob  1 ", "Family 1", "entry 0", " ", &many];
+    let unlike_scripts = [
+        "audit_ 1",
+        "witness_all 1",
+        "replay_part_hole",
+        "step_part A",
+        "_hole",
+    ];
+    for line in names.iter().chain(&unlike_scripts) {
         let output = run(line.as_bytes());
         assert!(output.status.success());
         let answered = format!("{line} unknown call\n");
@@ -269,6 +277,89 @@ fn scripts_that_cannot_be_read() {
             "listed 1000 ranges -",
             "replay 2 entry 0 at 0 7f addr 00000000 data 00000000 flags 00000000 00000000 \
              enable 1 lent 340",
+        ],
+    );
+}
+
+#[test]
+fn witnesses() {
+    answers(
+        "witness 2 entry 0 at 0 5f0101e2010000004000167f ranges - lent 171 171 171 => \
+         verdict 4 place 8 rows 2 steps 2 writes 0 clocks 1 1 10 \
+         known 00000000 00000002 aaaaaaaa values 00000000 00000002 aaaaaaaa
+         witness 2 entry 0 at 0 e200000000e00016100005 ranges 00101600 00101600 lent 200 171 200 \
+         => verdict 1 place 128 rows 1 steps 120 writes 1 clocks 129 10 known 00000000 aaaaaaaa \
+         values 00000000 aaaaaaaa
+         witness_part 3 entry 5 at 5 017f ranges 00000000 ffffffff lent 171 171 171 => \
+         verdict 0 place 6 count 2 writes 0 clocks 32 rows 1 steps 1 writes 0 clocks 33 10 \
+         known 00000000 aaaaaaaa values 00000000 aaaaaaaa
+         witness_hole 4 entry 0 at 0 5f1f007f hole 3 ranges - lent 171 171 171 => \
+         verdict 2 place 3 rows 2 steps 1 writes 0 clocks 1 1 10 \
+         known 00000000 80000000 aaaaaaaa values 00000000 00000000 aaaaaaaa
+         witness_input 1 entry 63 size 64 marks 64 last 1 ranges - lent 171 171 171 => \
+         verdict 0 place 63 count 1 writes 0 clocks 0 rows 1 steps 0 writes 0 clocks 1 10 \
+         known 00000000 aaaaaaaa values 00000000 aaaaaaaa",
+    );
+}
+
+#[test]
+fn witnesses_refused() {
+    answers(
+        "witness_input 0 entry 0 size 64 marks 64 last 1 ranges - lent 0 0 0 => \
+         refused 9 clocks known values
+         witness_input 1 entry 0 size 64 marks 64 last 2 ranges - lent 171 0 1 => \
+         refused 9 clocks 10 known values aaaaaaaa
+         witness 2 entry 0 at 0 7f ranges 00000005 lent 170 170 170 => \
+         refused 9 clocks 10 known aaaaaaaa values aaaaaaaa
+         witness 2 entry 0 at 0 7f ranges - lent 170 171 171 => \
+         refused 14 clocks 10 known aaaaaaaa values aaaaaaaa
+         witness 2 entry 0 at 0 7f ranges - lent 171 0 171 => \
+         refused 14 clocks 10 known values aaaaaaaa
+         witness 2 entry 0 at 0 ff ranges - lent 171 171 170 => \
+         refused 14 clocks 10 known aaaaaaaa values aaaaaaaa",
+    );
+}
+
+#[test]
+fn the_longest_log_is_shown_with_what_is_past_it() {
+    let script = "5f00015f0000".repeat(85);
+    let columns = |past: &str, junk: &str| {
+        let zeros = " 00000001 00000000".repeat(85);
+        format!(
+            "clocks{}{past} known 00000000{}{junk} values 00000000{zeros}{junk}",
+            " 1".repeat(171),
+            " 00000001".repeat(170)
+        )
+    };
+    let call = format!("witness 4 entry 0 at 0 {script}7f ranges - lent");
+    let verdict = "verdict 0 place 510 count 171 writes 0 clocks 0 rows 171 steps 170 writes 0";
+    answers(&format!(
+        "{call} 171 171 171 => {verdict} {}
+         {call} 200 200 200 => {verdict} {}",
+        columns("", ""),
+        columns(" 10", " aaaaaaaa")
+    ));
+}
+
+#[test]
+fn witnesses_that_cannot_be_read() {
+    unreadable(
+        "",
+        &[
+            "witness 0 entry 0 at 0 7f ranges - lent 171 171 171",
+            "witness 2 entry 0 at 0 7f ranges - lent 171 171",
+            "witness 2 entry 0 at 0 7f ranges - lent 171 171 171 171",
+            "witness 2 entry 0 at 0 7f ranges - lent 201 171 171",
+            "witness 2 entry 0 at 0 7f ranges - lent 171 201 171",
+            "witness 2 entry 0 at 0 7f ranges - lent 171 171 201",
+            "witness 2 entry 0 at 0 7f ranges - lent - - -",
+            "witness 2 entry 0 at 0 7f ranges - 171 171 171",
+            "witness 2 entry 0 at 0 7f ranges lent 171 171 171",
+            "witness 2 entry 0 at 0 7f ranges 171 lent 171 171 171",
+            "witness 2 entry 0 at 0 7f lent 171 171 171",
+            "witness 2 entry 0 at 0 7f hole 1 ranges - lent 171 171 171",
+            "witness_hole 2 entry 0 at 0 7f ranges - lent 171 171 171",
+            "witness_input 2 entry 0 at 0 7f ranges - lent 171 171 171",
         ],
     );
 }

@@ -4,7 +4,7 @@ use crate::log::Rows;
 use crate::machine::Bench;
 use crate::script::Ram;
 use crate::words::{Answer, Read, Words};
-use crate::{audit, isa, probe, replay};
+use crate::{audit, isa, probe, replay, witness};
 
 /// What calls leave for later ones.
 #[derive(Default)]
@@ -45,19 +45,25 @@ impl Calls {
             "slots" => self.bench()?.slots(),
             "place" => self.bench()?.place(words),
             "step" => started(&mut self.bench)?.step(words, self.log.columns()),
-            "audit" => audit::audit(Ram::Whole, words),
-            "audit_part" => audit::audit(Ram::Part, words),
-            "audit_hole" => audit::audit(Ram::Hole, words),
-            "audit_input" => audit::audit(Ram::Input, words),
             "listed" => audit::listed(words),
-            "replay" => replay::replay(Ram::Whole, words, self.log.columns()),
-            "replay_part" => replay::replay(Ram::Part, words, self.log.columns()),
-            "replay_hole" => replay::replay(Ram::Hole, words, self.log.columns()),
-            "replay_input" => replay::replay(Ram::Input, words, self.log.columns()),
-            _ => {
-                words.pass_over();
-                Ok(Some("unknown call".to_string()))
-            }
+            _ => self.call_on_script(name, words),
+        }
+    }
+
+    /// The answer to a call on a script; its name has the RAM's behind that of the call itself.
+    fn call_on_script(&self, name: &str, words: &mut Words) -> Answer {
+        let (call, ram) = match name.split_once('_') {
+            None => (name, Ram::Whole),
+            Some((call, "part")) => (call, Ram::Part),
+            Some((call, "hole")) => (call, Ram::Hole),
+            Some((call, "input")) => (call, Ram::Input),
+            Some(_) => return unknown(words),
+        };
+        match call {
+            "audit" => audit::audit(ram, words),
+            "replay" => replay::replay(ram, words, self.log.columns()),
+            "witness" => witness::witness(ram, words),
+            _ => unknown(words),
         }
     }
 
@@ -72,6 +78,12 @@ impl Calls {
     fn bench(&mut self) -> Read<&mut Bench> {
         started(&mut self.bench)
     }
+}
+
+/// The answer to a line that begins with no call.
+fn unknown(words: &mut Words) -> Answer {
+    words.pass_over();
+    Ok(Some("unknown call".to_string()))
 }
 
 /// The bench, which has no state before the first `fresh`.

@@ -8,6 +8,7 @@ mod machine;
 mod probe;
 mod replay;
 mod script;
+mod witness;
 mod words;
 
 use calls::Calls;

@@ -1,4 +1,4 @@
-//! The script of an audit or a replay: code with its marks, and the place it is entered at.
+//! The script of a call: code with its marks, and the place it is entered at.
 
 use crate::words::{Read, Words};
 use second::audit as library;
