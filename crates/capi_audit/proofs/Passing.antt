@@ -2,20 +2,10 @@
 use Prim.Native.Nat.{ℕ}
 use mathlib.Core.Path.{_≡_, ap, subst, _∙_}
 use mathlib.Core.List.{List}
-use Rattle.log.specs.Log.{Log}
 use Rattle.audit.specs.Promises.{Audits}
 use Rattle.verdict.specs.declared.verdicts.Verdict.{Verdict}
-use Rattle.witness.specs.Witnesses.{Witnesses}
-use Rattle.witness.specs.declared.showing.WitnessAnswer.{WitnessAnswer}
-use Rattle.capi_audit.specs.Showing.{witnessReply, HwsqWitness}
-use Rattle.capi_audit.specs.declared.showing.WitnessReply.{WitnessReply}
 use Rattle.capi_audit.specs.Verdicts.{auditReply, HwsqAudit}
 use Rattle.capi_audit.specs.declared.verdicts.AuditReply.{AuditReply}
 
 pub audit-passed : {family : ℕ} {code marks : List ℕ} {entry : ℕ} {ranges : List ℕ} {answer : Verdict} {reply : AuditReply} → Audits family code marks entry ranges answer → reply ≡ auditReply answer → HwsqAudit family code marks entry ranges reply
 audit-passed {family} {code} {marks} {entry} {ranges} p told = record { answered = told ∙ ap auditReply (p .answered); audits = subst (Audits family code marks entry ranges) (p .answered) p }
-
-pub witness-passed : {family : ℕ} {code marks : List ℕ} {entry : ℕ} {ranges : List ℕ} {lent new : Log} {answer : WitnessAnswer} {reply : WitnessReply}
-    → Witnesses family code marks entry ranges lent new answer → reply ≡ witnessReply answer → HwsqWitness family code marks entry ranges lent new reply
-witness-passed {family} {code} {marks} {entry} {ranges} {lent} {new} p told =
-    record { answered = told ∙ ap witnessReply (p .answered); witnesses = subst (Witnesses family code marks entry ranges lent new) (p .answered) p }

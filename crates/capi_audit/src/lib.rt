@@ -1,8 +1,5 @@
-// The auditor, and the log that shows its verdict, under C names, which pass on what the calls below them promise, with answers as structs of numbers.
-mod showing;
+// The auditor under a C name, which passes on what the auditor promises, with its verdict as a struct of numbers.
 mod verdicts;
 
-pub use showing::WitnessReply;
-pub use showing::hwsq_witness;
 pub use verdicts::AuditReply;
 pub use verdicts::hwsq_audit;

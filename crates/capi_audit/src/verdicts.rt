@@ -30,7 +30,7 @@ pub extern "C" fn hwsq_audit<'a>(
     audit_reply(audit::audit(family, code, marks, CodeAddress(entry), ranges))
 }
 
-pub(crate) fn audit_reply(verdict: Verdict) -> AuditReply
+fn audit_reply(verdict: Verdict) -> AuditReply
     ensures { λ r. ⌜ r ≡ auditReply verdict ⌝ }
 {
     match verdict {

@@ -2,9 +2,9 @@
 ghost use mathlib.Core.Path.{_≡_};
 ghost use mathlib.Core.Bool.{cond};
 ghost use Rattle.log.specs.Log.{logOf};
-ghost use Rattle.capi_audit.specs.Showing.{shownReply, unshownReply, witnessReply, HwsqWitness};
-use crate::verdicts::audit_reply;
+ghost use Rattle.capi_witness.specs.Showing.{toldReply, shownReply, unshownReply, witnessReply, HwsqWitness};
 use isa::CodeAddress;
+use verdict::Verdict;
 use witness::Shown;
 use witness::WitnessAnswer;
 
@@ -73,15 +73,36 @@ fn shown_reply(shown: Shown) -> WitnessReply
     ensures { λ r. ⌜ r ≡ shownReply shown ⌝ }
 {
     let verdict = shown.verdict;
-    let told = audit_reply(verdict);
+    match verdict {
+        Verdict::Pass {
+            place,
+            count,
+            clocks,
+            ..
+        } => told_reply(0, place, count, clocks, shown),
+        Verdict::Fault(fault, place) => {
+            told_reply(refusals::fault_number(fault), place, 0, 0, shown)
+        }
+    }
+}
+
+fn told_reply(
+    verdict: u8,
+    place: CodeAddress,
+    count: usize,
+    clocks: u64,
+    shown: Shown,
+) -> WitnessReply
+    ensures { λ r. ⌜ r ≡ toldReply verdict place count clocks shown ⌝ }
+{
     WitnessReply {
         refusal: 0,
-        verdict: told.verdict,
-        addr: second(told.verdict == 4),
-        data: second(told.verdict == 5),
-        place: told.place,
-        count: told.count,
-        clocks: told.clocks,
+        verdict,
+        addr: second(verdict == 4),
+        data: second(verdict == 5),
+        place: place.0,
+        count,
+        clocks,
         rows: shown.rows,
         steps: shown.steps,
         writes: shown.writes,

@@ -1,8 +1,8 @@
 -- Assumes nothing.
 use borrow.Author.Needs.{needs}
-use Rattle.capi_audit.proofs.Passing.{witness-passed}
-use Rattle.capi_audit.proofs.showing.hwsq_witness.Statement.{statement}
-use Rattle.capi_audit.proofs.showing.hwsq_witness.Tie as tie
+use Rattle.capi_witness.proofs.Passing.{witness-passed}
+use Rattle.capi_witness.proofs.showing.hwsq_witness.Statement.{statement}
+use Rattle.capi_witness.proofs.showing.hwsq_witness.Tie as tie
 
 returns : tie.Need-returns
 returns c = witness-passed (c .before .before .before .before .before .before .before .witness .ensures) (c .witness-reply .ensures)

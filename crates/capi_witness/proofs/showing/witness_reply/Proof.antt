@@ -1,7 +1,7 @@
 -- Assumes nothing.
 use borrow.Author.Needs.{needs}
-use Rattle.capi_audit.proofs.showing.witness_reply.Statement.{statement}
-use Rattle.capi_audit.proofs.showing.witness_reply.Tie as tie
+use Rattle.capi_witness.proofs.showing.witness_reply.Statement.{statement}
+use Rattle.capi_witness.proofs.showing.witness_reply.Tie as tie
 
 returns : tie.Need-returns
 returns c = simp (c .before .before .answer .given .1, c .shown-reply .ensures)

@@ -1,7 +1,7 @@
 -- Assumes nothing.
 use mathlib.Core.Path.{refl}
-use Rattle.capi_audit.proofs.showing.unshown_reply.Statement.{statement}
-use Rattle.capi_audit.proofs.showing.unshown_reply.Tie as tie
+use Rattle.capi_witness.proofs.showing.unshown_reply.Statement.{statement}
+use Rattle.capi_witness.proofs.showing.unshown_reply.Tie as tie
 
 returns : tie.Need-returns
 returns c = refl

@@ -2,30 +2,37 @@
 use Prim.Native.Nat.{ℕ}
 use mathlib.Core.Path.{_≡_}
 use mathlib.Core.List.{List}
-use Rattle.refusals.specs.Number.{unshowableNumber}
+use Rattle.refusals.specs.Number.{faultNumber, unshowableNumber}
+use Rattle.isa.specs.declared.addresses.CodeAddress.{CodeAddress}
 use Rattle.log.specs.Log.{Log}
 use Rattle.verdict.specs.Witness.{secondAddr, secondData}
+use Rattle.verdict.specs.declared.verdicts.Verdict.{Verdict}
 use Rattle.witness.specs.Witnesses.{witnessOf, Witnesses}
 use Rattle.witness.specs.declared.showing.Shown.{Shown}
 use Rattle.witness.specs.declared.showing.WitnessAnswer.{WitnessAnswer}
-use Rattle.capi_audit.specs.Verdicts.{auditReply}
-use Rattle.capi_audit.specs.declared.verdicts.AuditReply.{AuditReply}
-use Rattle.capi_audit.specs.declared.showing.WitnessReply.{WitnessReply}
+use Rattle.capi_witness.specs.declared.showing.WitnessReply.{WitnessReply}
 
--- the verdict as the auditor's reply has it, and the second start by its number
-abbrev pub shownReply : Shown → WitnessReply
-shownReply shown = let told = auditReply (shown .verdict) in record {
+-- a verdict's number, its place and, of a pass, its counts; the second start of 4 and 5 by that number
+abbrev pub toldReply : ℕ → CodeAddress → ℕ → ℕ → Shown → WitnessReply
+toldReply verdict place count clocks shown = record {
   refusal = 0;
-  verdict = told .verdict;
-  addr = secondAddr (told .verdict);
-  «data» = secondData (told .verdict);
-  place = told .place;
-  count = told .count;
-  clocks = told .clocks;
+  verdict = verdict;
+  addr = secondAddr verdict;
+  «data» = secondData verdict;
+  place = place .0;
+  count = count;
+  clocks = clocks;
   rows = shown .rows;
   steps = shown .steps;
   writes = shown .writes;
 }
+
+abbrev pub toldOf : Verdict → Shown → WitnessReply
+toldOf (Verdict.Pass place count writes clocks) shown = toldReply 0 place count clocks shown
+toldOf (Verdict.Fault fault place) shown = toldReply (faultNumber fault) place 0 0 shown
+
+abbrev pub shownReply : Shown → WitnessReply
+shownReply shown = toldOf (shown .verdict) shown
 
 abbrev pub unshownReply : ℕ → WitnessReply
 unshownReply refusal = record { refusal = refusal; verdict = 0; addr = 0; «data» = 0; place = 0; count = 0; clocks = 0; rows = 0; steps = 0; writes = 0 }
