@@ -1,6 +1,7 @@
 // Why calls are refused and scripts are faulty, and the number of each reason.
 ghost use mathlib.Core.Path.{_≡_};
-ghost use Rattle.refusals.specs.Number.{unreadableNumber, unwritableNumber, unsteppableNumber, inaccessibleNumber, faultNumber, unreplayableNumber, unshowableNumber};
+ghost use Rattle.refusals.specs.Number.{unreadableNumber, unwritableNumber, unsteppableNumber, inaccessibleNumber, faultNumber};
+ghost use Rattle.refusals.specs.Number.{unreplayableNumber, unshowableNumber};
 
 // Why there is no instruction.
 pub enum Unreadable {

@@ -64,7 +64,12 @@ module _ (x : Script) (entry : ℕ) {q : ℕ} {l : Knowledge} (unpaused : (pause
     ended = λ _. inr (record { waits = h .waiting; row = h .row; used = h .used });
     exact = λ m. never (cc (h .waiting));
   }
-  safe-in log n does (exits h) = record { listed = h .listed; orderly = rw (does, h .idle) tt; ended = λ _. inl (exact-in x entry unpaused name r h .exit); exact = λ _. exact-in x entry unpaused name r h }
+  safe-in log n does (exits h) = let e = exact-in x entry unpaused name r h in record {
+    listed = h .listed;
+    orderly = rw (does, h .idle) tt;
+    ended = λ _. inl (e .exit);
+    exact = λ _. e;
+  }
 
 -- ---- what the walk comes to
 
@@ -118,7 +123,8 @@ pub audit-numbered : (family : ℕ) (code marks : List ℕ) (entry : ℕ) (range
 unfolding auditOf auditNumber
 audit-numbered family code marks entry ranges = number-of (inputFits family code marks entry ranges) (verdictIn (codeSize family) family code marks ranges entry knowNothing)
 
-module _ (family : ℕ) (code marks : List ℕ) (entry : ℕ) (ranges : List ℕ) (bytes : (i : ℕ) → getD code i 0 < 2 ^ 8) (i : inputFits family code marks entry ranges ≡ true) where
+module _ (family : ℕ) (code marks : List ℕ) (entry : ℕ) (ranges : List ℕ) (bytes : (i : ℕ) → getD code i 0 < 2 ^ 8)
+    (i : inputFits family code marks entry ranges ≡ true) where
   abbrev script : Script
   script = record { family = family; code = code; marks = marks; ranges = ranges }
 

@@ -28,7 +28,8 @@ use Rattle.verdict.proofs.Starts.{slot-follows, effect-follows, someSta
 use Rattle.verdict.proofs.Shown.{stuck-waits, StartIn, witness, brought, SeesIt, refused-sees, blamed-sees}
 
 -- no run from a start that comes to an ewait that nothing can release fetches again
-stuck : (x : Script) {p t event value entry : ℕ} → Reads x p (Action.Ewait event value) t → canRelease event value ≡ false → Fits (x .family) (x .code) (x .marks) entry
+stuck : (x : Script) {p t event value entry : ℕ} → Reads x p (Action.Ewait event value) t → canRelease event value ≡ false
+    → Fits (x .family) (x .code) (x .marks) entry
     → {name : SlotName} {s : State} → Start (x .family) (x .code) (x .marks) entry name s
     → (log : Log) → validLog log ≡ true → (n : ℕ) → AtPlace (x .family) (x .code) (x .marks) entry (x .ranges) name p (runFor name log n (begun s))
     → (m : ℕ) → Fetchless (nextStep name log (runFor name log (suc (n + m)) (begun s)) .effect)

@@ -76,7 +76,8 @@ merge-high : (addr operand : ℕ) → mergeOf Part.Low addr operand / 65536 ≡ 
 merge-high addr operand = omega arith
 
 -- a state's run at exit, from what it shows of the slot
-pub exact-in : (x : Script) (entry : ℕ) {q : ℕ} {l : Knowledge} → (pausesMemory (x .family) && l .paused) ≡ false → (name : SlotName) (r : Run) → Exited x q l (slotRunOf name r)
+pub exact-in : (x : Script) (entry : ℕ) {q : ℕ} {l : Knowledge} → (pausesMemory (x .family) && l .paused) ≡ false → (name : SlotName) (r : Run)
+    → Exited x q l (slotRunOf name r)
     → Exact (x .family) (x .code) (x .marks) entry (x .ranges) name q (l .count + 1) (l .writes) (l .clocks) r
 exact-in x entry unpaused name r h = record {
   exit = record { idle = h .idle; ip = h .ip; memory-runs = h .paused ∙ unpaused };
@@ -127,7 +128,8 @@ module _ (x : Script) (entry : ℕ) (fit : Auditable x entry) {q : ℕ} {k : Kno
     does : {t : Turn} → nextTurn scene slot-run ≡ t → effect ≡ t .effect
     does e = effect-follows x entry start (fit .fits) log (witness-valid x w) steps ∙ ap (λ (t : Turn). t .effect) e
 
-    stops : (why : Unreadable) → fetchAt x q ≡ Decoded.Refused why → effect ≡ unfetched (x .family) (slot-run .slot) (slot-run .flags) (slot-run .place) why .effect
+    stops : (why : Unreadable) → fetchAt x q ≡ Decoded.Refused why
+        → effect ≡ unfetched (x .family) (slot-run .slot) (slot-run .flags) (slot-run .place) why .effect
     stops why e = does (refuses x true log (agrees .going) why e)
 
     pokes : {m : ℕ} (part : Part) (operand : ℕ) → Reads x q (Action.Poke part operand) m
@@ -158,7 +160,8 @@ module _ (x : Script) (entry : ℕ) (fit : Auditable x entry) {q : ℕ} {k : Kno
   -- ---- two starts that write differently
 
   differ : {name : SlotName} {s s′ : State} (one : StartIn name s) (two : StartIn name s′) {address word address′ word′ : ℕ}
-      → effect one ≡ Effect.Wrote (record { 0 = address }) word → effect two ≡ Effect.Wrote (record { 0 = address′ }) word′ → (address ≡ address′ → word ≡ word′ → ⊥)
+      → effect one ≡ Effect.Wrote (record { 0 = address }) word → effect two ≡ Effect.Wrote (record { 0 = address′ }) word′
+      → (address ≡ address′ → word ≡ word′ → ⊥)
       → WriteDifferently (x .family) (x .code) (x .marks) entry (x .ranges) q (witness one) (witness two)
   differ one two writes writes′ apart = record {
     same-slot = refl;
@@ -180,7 +183,8 @@ module _ (x : Script) (entry : ℕ) (fit : Auditable x entry) {q : ℕ} {k : Kno
 
   module _ {name : SlotName} {s : State} (start : StartIn name s) where
     addr-differs : {m : ℕ} (operand : ℕ) → Reads x q (Action.Poke Part.Low operand) m → k .addr ≡ KnownAddress.Unset
-        → DifferIn name (withAddr (x .family) (x .code) (x .marks) entry (x .ranges) name s 0) (withAddr (x .family) (x .code) (x .marks) entry (x .ranges) name s 65536)
+        → DifferIn name (withAddr (x .family) (x .code) (x .marks) entry (x .ranges) name s 0)
+        (withAddr (x .family) (x .code) (x .marks) entry (x .ranges) name s 65536)
     addr-differs operand e unset =
         let one = start-addr (x .ranges) start 0 (lit< tt) in
         let two = start-addr (x .ranges) start 65536 (lit< tt) in
@@ -191,7 +195,8 @@ module _ (x : Script) (entry : ℕ) (fit : Auditable x entry) {q : ℕ} {k : Kno
         (one, two, differ one two (g .2) (h .2) (λ same _. omega (arith, low, high)))
 
     data-differs : {m : ℕ} (part : Part) (operand : ℕ) → Reads x q (Action.Poke part operand) m → k .«data» ≡ false
-        → DifferIn name (withData (x .family) (x .code) (x .marks) entry (x .ranges) name s 0) (withData (x .family) (x .code) (x .marks) entry (x .ranges) name s 65536)
+        → DifferIn name (withData (x .family) (x .code) (x .marks) entry (x .ranges) name s 0)
+        (withData (x .family) (x .code) (x .marks) entry (x .ranges) name s 65536)
     data-differs part operand e half =
         let one = start-data (x .ranges) start 0 (lit< tt) in
         let two = start-data (x .ranges) start 65536 (lit< tt) in
@@ -237,7 +242,8 @@ module _ (x : Script) (entry : ℕ) (fit : Auditable x entry) {q : ℕ} {k : Kno
     -- ---- the verdict
 
     abbrev Shown : Verdict → Type 0
-    Shown v = ShownFrom (x .family) (x .code) (x .marks) entry (x .ranges) log (witness-valid x w) (witness-masks x w) steps (writesOver (actionsOf x w)) v start
+    Shown v =
+        ShownFrom (x .family) (x .code) (x .marks) entry (x .ranges) log (witness-valid x w) (witness-masks x w) steps (writesOver (actionsOf x w)) v start
 
     wrote : length (runFor name log steps (begun s) .writes) ≡ writesOver (actionsOf x w)
     wrote = ap (λ (r : SlotRun). length (r .writes)) (same start) ∙ omega (arith, agrees start .writes, walk-writes x w)
@@ -256,4 +262,9 @@ module _ (x : Script) (entry : ℕ) (fit : Auditable x entry) {q : ℕ} {k : Kno
     }
 
   pub shown-by : {v : Verdict} → Ends x q k v → ShownBy (x .family) (x .code) (x .marks) entry (x .ranges) log steps (writesOver (actionsOf x w)) v
-  shown-by ends = record { valid = witness-valid x w; masks = witness-masks x w; few = rw (length-map (witnessRows x w) (λ (r : Row). r .clocks)) (witness-few x w); shown = λ start. shown-from start ends }
+  shown-by ends = record {
+    valid = witness-valid x w;
+    masks = witness-masks x w;
+    few = rw (length-map (witnessRows x w) (λ (r : Row). r .clocks)) (witness-few x w);
+    shown = λ start. shown-from start ends;
+  }

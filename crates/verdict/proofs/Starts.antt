@@ -158,10 +158,14 @@ in-type-with i small-a small-b = record {
   b = small-b;
 }
 
+abbrev registersSet : Slot → ℕ → ℕ → Slot
+registersSet slot addr word = record { mode = slot .mode; ip = slot .ip; addr = record { 0 = addr }; «data» = word }
+
 module _ {family : ℕ} {code marks : List ℕ} {entry : ℕ} where
   start-with : {name : SlotName} {s : State} {a b : Slot} → Start family code marks entry name s → SlotInType a → SlotInType b
       → (name′ : SlotName) → hasSlot family name′ ≡ true → slotOf (withSlots s a b) name′ .mode ≡ Mode.Running → slotOf (withSlots s a b) name′ .ip .0 ≡ entry
-      → (hasSlot family (otherOf name′) ≡ true → slotOf (withSlots s a b) (otherOf name′) .mode ≡ Mode.Idle) → Start family code marks entry name′ (withSlots s a b)
+      → (hasSlot family (otherOf name′) ≡ true → slotOf (withSlots s a b) (otherOf name′) .mode ≡ Mode.Idle)
+      → Start family code marks entry name′ (withSlots s a b)
   start-with start small-a small-b name′ there runs at idle = record {
     in-type = in-type-with (start .in-type) small-a small-b;
     same-family = start .same-family;
@@ -176,21 +180,25 @@ module _ {family : ℕ} {code marks : List ℕ} {entry : ℕ} where
   }
 
   -- the same in slot B
-  start-exchanged : {s : State} → Start family code marks entry SlotName.A s → hasSlot family SlotName.B ≡ true → Start family code marks entry SlotName.B (withSlots s (s .b) (s .a))
+  start-exchanged : {s : State} → Start family code marks entry SlotName.A s → hasSlot family SlotName.B ≡ true
+      → Start family code marks entry SlotName.B (withSlots s (s .b) (s .a))
   start-exchanged start there =
       start-with start (start .in-type .b) (start .in-type .a) SlotName.B there (start .executing) (start .at-entry) (λ _. start .other-idle there)
 
   -- and with another number in ADDR, or in DATA
-  start-registers : (name : SlotName) {s : State} {addr word : ℕ} → Start family code marks entry name s → (SlotInType (slotOf s name) → (addr < 2 ^ 32) × (word < 2 ^ 32))
-      → Start family code marks entry name (withSlot s name (record { mode = slotOf s name .mode; ip = slotOf s name .ip; addr = record { 0 = addr }; «data» = word }) (s .flags))
+  start-registers : (name : SlotName) {s : State} {addr word : ℕ} → Start family code marks entry name s
+      → (SlotInType (slotOf s name) → (addr < 2 ^ 32) × (word < 2 ^ 32))
+      → Start family code marks entry name (withSlot s name (registersSet (slotOf s name) addr word) (s .flags))
   start-registers SlotName.A start small =
       let i = start .in-type in
       let h = small (i .a) in
-      start-with start (record { ip = i .a .ip; addr = h .0; word = h .1 }) (i .b) SlotName.A (start .slot-there) (start .executing) (start .at-entry) (start .other-idle)
+      start-with start (record { ip = i .a .ip; addr = h .0; word = h .1 }) (i .b)
+      SlotName.A (start .slot-there) (start .executing) (start .at-entry) (start .other-idle)
   start-registers SlotName.B start small =
       let i = start .in-type in
       let h = small (i .b) in
-      start-with start (i .a) (record { ip = i .b .ip; addr = h .0; word = h .1 }) SlotName.B (start .slot-there) (start .executing) (start .at-entry) (start .other-idle)
+      start-with start (i .a) (record { ip = i .b .ip; addr = h .0; word = h .1 })
+      SlotName.B (start .slot-there) (start .executing) (start .at-entry) (start .other-idle)
 
   module _ (ranges : List ℕ) {name : SlotName} {s : State} (start : Start family code marks entry name s) where
     pub start-addr : (addr : ℕ) → addr < 2 ^ 32 → Start family code marks entry name (withAddr family code marks entry ranges name s addr)

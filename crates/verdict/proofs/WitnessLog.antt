@@ -164,7 +164,8 @@ module _ (x : Script) where
   rows-most : {p q : ℕ} {k l : Knowledge} (w : Walk x p k q l) (row : Row) → 3 * length (rowsOver (actionsOf x w) row) ≤ 3 + (codeSize (x .family) - p)
   rows-most here row = omega arith
   rows-most (more action n e f w) row =
-      omega (arith, length-append (rowsLeft action row) (rowsOver (actionsOf x w) (rowAfter action row)), reads-size e row, rows-most w (rowAfter action row), e .inside)
+      let next = rowAfter action row in
+      omega (arith, length-append (rowsLeft action row) (rowsOver (actionsOf x w) next), reads-size e row, rows-most w next, e .inside)
 
   pub witness-few : {p q : ℕ} {k l : Knowledge} (w : Walk x p k q l) → length (witnessRows x w) ≤ maxShown
   witness-few w = omega (arith, rows-most w firstRow, size-small (x .family))
@@ -175,7 +176,8 @@ module _ (x : Script) where
   in-log {k = k} (more action n e f w) row b h m =
       let next = bounded-next action (e .formed) (e .some) b in
       left-more action row (rowsOver (actionsOf x w) (rowAfter action row)) m h
-      (in-log w (rowAfter action row) next (omega (arith, next .count, next .clocks, e .inside, size-small (x .family))) (made-after action row (k .clocks) (f .event) m))
+      (in-log w (rowAfter action row) next (omega (arith, next .count, next .clocks, e .inside, size-small (x .family)))
+      (made-after action row (k .clocks) (f .event) m))
 
   module _ {entry q : ℕ} {l : Knowledge} (w : Walk x entry knowNothing q l) where
     rows-in-log : InLog (witnessRows x w)

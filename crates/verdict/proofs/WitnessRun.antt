@@ -1,5 +1,5 @@
 -- Under the log made for the auditor's walk a run from every start comes to where the walk ends, with one clock to spare. Assumes nothing.
-use Prim.Native.Nat.{ℕ, zero, suc, _+_, _-_, _*_, _%_, _^_, _≤_, _<_}
+use Prim.Native.Nat.{ℕ, zero, suc, _+_, _-_, _%_, _^_, _≤_, _<_}
 use mathlib.Core.Path.{_≡_, refl, sym, ap, _∙_}
 use mathlib.Core.Bool.{Bool, true, false, cond, _&&_}
 use mathlib.Core.List.{List, [], _∷_, _++_}
@@ -38,7 +38,8 @@ use Rattle.verdict.proofs.Agreement.{Agree, goes-on}
 row-releases : (event value : ℕ) → canRelease event value ≡ true → releases (eventRow event value) event value ≡ true
 unfolding canRelease hasReading
 row-releases event value c =
-    by value (below-at 32 (λ i. releases (eventRow i 0) i 0 && releases (eventRow i 1) i 1) refl event (ltb-true event 32 (both-left (ltb event 32) (ltb value 2) c)))
+    by value
+    (below-at 32 (λ i. releases (eventRow i 0) i 0 && releases (eventRow i 1) i 1) refl event (ltb-true event 32 (both-left (ltb event 32) (ltb value 2) c)))
     (ltb-true value 2 (both-right (ltb event 32) (ltb value 2) c))
   where
     by : (v : ℕ) → (releases (eventRow event 0) event 0 && releases (eventRow event 1) event 1) ≡ true → v < 2 → releases (eventRow event v) event v ≡ true
@@ -111,7 +112,8 @@ module _ (log : List Row) where
       → Finished (cond b row (eventRow event value)) later (elapsed (Action.Ewait event value) p)
   ewait-finishes event value p row later r true t c o =
       let d = first-at (p .row) log (c .first) (c .rest) (o .ahead ∙ c .is) in
-      let there : hasReading (getD (knownOf log) (p .row) 0) (getD (valuesOf log) (p .row) 0) event value ≡ true = rw (d .knows, d .reads, c .knows, c .reads) t in
+      let there : hasReading (getD (knownOf log) (p .row) 0) (getD (valuesOf log) (p .row) 0) event value ≡ true
+      = rw (d .knows, d .reads, c .knows, c .reads) t in
       let e : ewaitOf (logIn log) p event value ≡ Released.At (record { row = p .row; used = p .used }) 0
       = sym (in64-start (logIn log) event value p)
       ∙ in64-here (logIn log) event value (p .row) (p .used) 0 (lit< tt) (d .inside) there in
@@ -131,7 +133,8 @@ module _ (log : List Row) where
       rw e (record { finished = refl; on = record { ahead = rw next (d .rest); used = refl } })
 
   -- any action judged fine
-  finishes : (action : Action) (p : Place) (row : Row) (later : List Row) → ((event value : ℕ) → action ≡ Action.Ewait event value → canRelease event value ≡ true)
+  finishes : (action : Action) (p : Place) (row : Row) (later : List Row)
+      → ((event value : ℕ) → action ≡ Action.Ewait event value → canRelease event value ≡ true)
       → Continues (rowAfter action row) later → On p row (rowsLeft action row ++ later) → Finished (rowAfter action row) later (elapsed action p)
   finishes (Action.Wait n) p row later f c o =
       let d = first-at (p .row) log (c .first) (c .rest) (o .ahead ∙ c .is) in
@@ -168,7 +171,8 @@ pub record Arrived (x : Script) (log : Log) (addr word q : ℕ) (l : Knowledge) 
 
 module _ (x : Script) (log : List Row) where
   reach-on : {addr word p q : ℕ} {k l : Knowledge} {r : SlotRun} (w : Walk x p k q l) (row : Row) → Agree x addr word p k r
-      → On log (r .place) row (rowsOver (actionsOf x w) row) → Arrived x (logIn log) addr word q l (slotRunFor (sceneUnder x (logIn log)) (length (actionsOf x w)) r)
+      → On log (r .place) row (rowsOver (actionsOf x w) row)
+      → Arrived x (logIn log) addr word q l (slotRunFor (sceneUnder x (logIn log)) (length (actionsOf x w)) r)
   unfolding slotRunFor performOf
   reach-on {r = r} here row g o = record { agrees = g; one-left = last-left log (r .place) row o }
   reach-on {r = r} (more action n e f w) row g o =

@@ -1,8 +1,8 @@
 -- What `witness` answers, case by case. Assumes nothing.
 use Prim.Native.Nat.{ℕ, _+_, _≤_, _<_}
-use mathlib.Core.Path.{_≡_, refl, sym, ap, subst, _∙_}
+use mathlib.Core.Path.{_≡_, refl, ap, subst}
 use mathlib.Core.Logic.{_⊎_, ⊎-elim}
-use mathlib.Core.Bool.{Bool, true, false, _&&_, and-false}
+use mathlib.Core.Bool.{true, false, and-false}
 use mathlib.Core.List.{List}
 use native.Mathlib.Omega.{arith}
 use lib.Dec.{leb, eqb}
@@ -30,7 +30,11 @@ use Rattle.witness.specs.declared.showing.WitnessAnswer.{WitnessAnswer}
 
 has-room : (lent : Log) → Room maxShown lent → hasRoom lent ≡ true
 has-room lent r =
-    rw (le-leb maxShown (length (lent .clocks)) (r .clocks), le-leb maxShown (length (lent .known)) (r .known), le-leb maxShown (length (lent .values)) (r .values)) refl
+    rw (
+      le-leb maxShown (length (lent .clocks)) (r .clocks),
+      le-leb maxShown (length (lent .known)) (r .known),
+      le-leb maxShown (length (lent .values)) (r .values),
+    ) refl
 
 pub few-clocks : (lent : Log) → length (lent .clocks) < maxShown → hasRoom lent ≡ false
 few-clocks lent h = rw (lt-leb maxShown (length (lent .clocks)) h) refl

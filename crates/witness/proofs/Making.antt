@@ -25,7 +25,7 @@ use Rattle.actions.proofs.Variants.{none}
 use Rattle.actions.proofs.actions.Action.{the-type as action-type}
 use Rattle.script.specs.Input.{scriptFits, rangesFit, inputFits}
 use Rattle.script.proofs.Scripts.{Script, fits-script, fetchAt, Reads}
-use Rattle.verdict.specs.Auditor.{pokeCount, waitLength, knowNext, knowNothing, auditOf}
+use Rattle.verdict.specs.Auditor.{waitLength, knowNext, knowNothing, auditOf}
 use Rattle.verdict.specs.Witness.{firstRow, eventRow, releases, rowAfter, rowsLeft, rowsOver, writesOver, placeOf, maxShown}
 use Rattle.verdict.specs.declared.verdicts.Knowledge.{Knowledge}
 use Rattle.audit.proofs.Turns.{poke-small}
@@ -46,7 +46,8 @@ module _ (made : Timeline) (old : Log) where
   stepped row rows writes = record { row = row; rows = rows; steps = made .steps + 1; writes = writes }
 
   pub extends-wait : (action : Action) (n : ℕ) → action ≡ Action.Wait n
-      → Extends action made old old (stepped (record { clocks = made .row .clocks + n; known = made .row .known; values = made .row .values }) (made .rows) (made .writes))
+      → Extends action made old old
+      (stepped (record { clocks = made .row .clocks + n; known = made .row .known; values = made .row .values }) (made .rows) (made .writes))
   extends-wait action n e = rw e (record { made-is = simp add-zero; put = refl })
 
   pub extends-released : (action : Action) (event value : ℕ) → action ≡ Action.Ewait event value → releases (made .row) event value ≡ true
@@ -62,7 +63,8 @@ module _ (made : Timeline) (old : Log) where
       → Extends action made old old (stepped (made .row) (made .rows) (made .writes + 1))
   extends-poke action part word e = rw e (record { made-is = simp add-zero; put = refl })
 
-  pub extends-other : (action : Action) → OneOf (2 ∷ 3 ∷ 5 ∷ []) (tagOf action-type action) → Extends action made old old (stepped (made .row) (made .rows) (made .writes))
+  pub extends-other : (action : Action) → OneOf (2 ∷ 3 ∷ 5 ∷ []) (tagOf action-type action)
+      → Extends action made old old (stepped (made .row) (made .rows) (made .writes))
   extends-other (Action.Wait n) h = none (2 ∷ 3 ∷ 5 ∷ []) 0 tt h
   extends-other (Action.Ewait event value) h = none (2 ∷ 3 ∷ 5 ∷ []) 1 tt h
   extends-other (Action.Flag change flag) h = record { made-is = simp add-zero; put = refl }
@@ -85,7 +87,8 @@ module _ (x : Script) where
     rest : Walk x (p + n) (knowNext action k) q l
     is : actionsOf x w ≡ action ∷ actionsOf x rest
 
-  next-of : {p q : ℕ} {k l : Knowledge} (w : Walk x p k q l) → (p ≡ q → ⊥) → (i : Instruction) (n : ℕ) → fetchAt x p ≡ Decoded.Instruction i n → Next w (actionOf i) n
+  next-of : {p q : ℕ} {k l : Knowledge} (w : Walk x p k q l) → (p ≡ q → ⊥) → (i : Instruction) (n : ℕ) → fetchAt x p ≡ Decoded.Instruction i n
+      → Next w (actionOf i) n
   next-of here apart i n f = absurd (apart refl)
   next-of (more action m e g w) apart i n f =
       let which : i ≡ e .instruction = cc (e .found) in
@@ -141,7 +144,8 @@ making-first {l = l} w lent h = record {
 }
 
 -- the loop begins so, on its way to the verdict's place
-pub making-begins : (family : ℕ) (code marks : List ℕ) (entry : ℕ) (ranges : List ℕ) → ((i : ℕ) → getD code i 0 < 2 ^ 8) → inputFits family code marks entry ranges ≡ true
+pub making-begins : (family : ℕ) (code marks : List ℕ) (entry : ℕ) (ranges : List ℕ) → ((i : ℕ) → getD code i 0 < 2 ^ 8)
+    → inputFits family code marks entry ranges ≡ true
     → (lent : Log) {place : ℕ} {made : Timeline} → place ≡ placeOf (auditOf family code marks entry ranges) → made ≡ nothingMade
     → Making (record { family = family; code = code; marks = marks; ranges = ranges }) place (way family code marks entry ranges) lent lent entry made
 making-begins family code marks entry ranges bytes fits lent there nothing =
@@ -150,7 +154,8 @@ making-begins family code marks entry ranges bytes fits lent there nothing =
     let low = fits-script family code marks entry (both-left (scriptFits family code marks entry) (rangesFit ranges) fits) .entry-low in
     rw (there, nothing, way-is x (codeSize family) w (omega arith)) (making-first w lent low)
 
-module _ {x : Script} {place : ℕ} {all : List Action} {lent log : Log} {at : ℕ} {made : Timeline} (g : Making x place all lent log at made) (room : Room maxShown lent) where
+module _ {x : Script} {place : ℕ} {all : List Action} {lent log : Log} {at : ℕ} {made : Timeline}
+    (g : Making x place all lent log at made) (room : Room maxShown lent) where
   few : length (g .before) ≤ 170
   few = omega (arith, g .three-bytes, g .low)
 
@@ -161,7 +166,8 @@ module _ {x : Script} {place : ℕ} {all : List Action} {lent log : Log} {at : �
   pub place-left : (made .rows < length (log .clocks)) × (made .rows < length (log .known)) × (made .rows < length (log .values))
   place-left =
       let s = same-lengths in
-      (omega (arith, few, g .counted, s .clocks, room .clocks), omega (arith, few, g .counted, s .known, room .known), omega (arith, few, g .counted, s .values, room .values))
+      let small : made .rows ≤ 170 = omega (arith, few, g .counted) in
+      (omega (arith, small, s .clocks, room .clocks), omega (arith, small, s .known, room .known), omega (arith, small, s .values, room .values))
 
   put-after : (rows : List Row) → length (g .before) + length rows ≤ maxShown → withRowsAt log (made .rows) rows ≡ rowsInto lent (g .before ++ rows)
   put-after rows h = ap₂ (λ (l : Log) (n : ℕ). withRowsAt l n rows) (g .put) (g .counted) ∙ rows-more lent (g .before) rows (less-room room h)

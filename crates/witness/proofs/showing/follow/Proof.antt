@@ -1,7 +1,7 @@
 -- The rows that the loop has put, and those that it is still to put, are the log. Assumes nothing.
 use denote.Ref.{now}
 use Prim.Native.Nat.{ℕ, _+_, _-_, _≤_, _<_}
-use mathlib.Core.Path.{_≡_, sym, ap, subst, _∙_}
+use mathlib.Core.Path.{_≡_, sym, _∙_}
 use mathlib.Core.List.{List}
 use mathlib.Core.Logic.{⊎-elim}
 use native.Mathlib.Omega.{arith}
@@ -14,7 +14,6 @@ use Rattle.log.proofs.Columns.{Room}
 use Rattle.script.proofs.Scripts.{Script}
 use Rattle.verdict.specs.Witness.{maxShown}
 use Rattle.witness.specs.Witnesses.{way}
-use Rattle.witness.specs.declared.rows.Timeline.{Timeline}
 use Rattle.witness.proofs.Making.{never-refused, Making, making-begins, making-over, making-next, place-left, counts-fit, inside, lengths-over}
 use Rattle.witness.proofs.showing.follow.Statement.{statement}
 use Rattle.witness.proofs.showing.follow.Tie as tie
@@ -47,8 +46,8 @@ loop-holds : tie.Need-loop-holds Inv-loop μ-loop
 loop-holds c =
     let s = start c in
     let a = s .args in
-    making-begins (a .family) (now (a .code)) (now (a .marks)) (a .entry .0) (now (a .ranges)) (λ i. bytes-known c .shared-slice-known .given i .fits) (s .pre .0)
-    (lent c) (s .pre .1) (c .begin .ensures)
+    making-begins (a .family) (now (a .code)) (now (a .marks)) (a .entry .0) (now (a .ranges))
+    (λ i. bytes-known c .shared-slice-known .given i .fits) (s .pre .0) (lent c) (s .pre .1) (c .begin .ensures)
 
 -- what was found, and where it lies
 module _ (c : tie.After-found Inv-loop μ-loop) where
@@ -111,7 +110,10 @@ module _ (c : tie.Joined1 Inv-loop μ-loop) where
   left = c .before .before
 
   arrives : (c .if1 .last ≡ left .loop .made) × (left .loop .at ≡ start (left .before) .args .place .0)
-  arrives = ⊎-elim (λ w. (w .1, w .0 .taken)) (λ w. absurd (never-refused _ (left .loop .inv .walk) (w .0 .left) _ (sym (w .1 .ensures .answered) ∙ w .3 .given .1))) (c .if1 .came)
+  arrives =
+      ⊎-elim (λ w. (w .1, w .0 .taken))
+      (λ w. absurd (never-refused _ (left .loop .inv .walk) (w .0 .left) _ (sym (w .1 .ensures .answered) ∙ w .3 .given .1)))
+      (c .if1 .came)
 
 put-row-requires : tie.Need-put-row-requires Inv-loop μ-loop
 put-row-requires c κs =

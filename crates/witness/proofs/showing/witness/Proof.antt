@@ -42,7 +42,9 @@ returns-2 : tie.Need-returns-2
 returns-2 c =
     let columns = lent (audited (c .before)) in
     refuses-room _ _ _ _ _ columns (fits (c .before))
-    (⊎-elim (λ w. few-clocks columns (w .taken)) (⊎-elim (λ w. few-known columns (ltb-true _ _ (w .1 .taken))) (λ w. few-values columns (ltb-true _ _ (w .2 .taken)))) (c .if2 .came))
+    (⊎-elim (λ w. few-clocks columns (w .taken))
+    (⊎-elim (λ w. few-known columns (ltb-true _ _ (w .1 .taken))) (λ w. few-values columns (ltb-true _ _ (w .2 .taken))))
+    (c .if2 .came))
 
 -- and the columns are long enough
 module _ (c : tie.After-place-of) where
@@ -50,7 +52,11 @@ module _ (c : tie.After-place-of) where
   took = c .before .before .before .before
 
   long : Room maxShown (lent (audited took))
-  long = record { clocks = c .before .before .before .if2 .left; known = ltb-false _ _ (c .before .before .if3 .left); values = ltb-false _ _ (c .before .if4 .left) }
+  long = record {
+    clocks = c .before .before .before .if2 .left;
+    known = ltb-false _ _ (c .before .before .if3 .left);
+    values = ltb-false _ _ (c .before .if4 .left);
+  }
 
 follow-requires : tie.Need-follow-requires
 follow-requires c κs =
