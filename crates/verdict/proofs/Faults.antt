@@ -25,7 +25,7 @@ use Rattle.verdict.proofs.Going.{sceneUnder, next, run-rests, Going}
 use Rattle.verdict.proofs.Judging.{Blame}
 use Rattle.verdict.proofs.Walk.{Walk}
 use Rattle.verdict.proofs.Starts.{slot-follows, effect-follows, someState, some-start}
-use Rattle.verdict.proofs.Shown.{stuck-waits, StartIn, witness, brought, SeesIt, refused-sees, blamed-sees}
+use Rattle.verdict.proofs.Shown.{stuck-there, StartIn, witness, brought, SeesIt, refused-sees, blamed-sees}
 
 -- no run from a start that comes to an ewait that nothing can release fetches again
 stuck : (x : Script) {p t event value entry : ℕ} → Reads x p (Action.Ewait event value) t → canRelease event value ≡ false
@@ -37,7 +37,7 @@ unfolding slotRunFor
 stuck x {p} {entry = entry} e c fit {name} {s} start log valid n at m =
     let slot = slotBegun (slotOf s name) (s .flags) in
     let g : Going p (slotRunOf name (runFor name log n (begun s))) = record { runs = at .runs; ip = at .ip } in
-    let waits = stuck-waits x e c log (rw (slot-follows x entry start fit log valid n) at g) in
+    let waits = stuck-there x e c log (rw (slot-follows x entry start fit log valid n) at g) .waits in
     let split : suc (n + m) ≡ n + suc m = omega arith in
     rw (split, effect-follows x entry start fit log valid (n + suc m), slot-add (sceneUnder x log) n (suc m) slot)
     (rw (run-rests (sceneUnder x log) (next (sceneUnder x log) (slotRunFor (sceneUnder x log) n slot)) (ap isRunning waits) m, waits) tt)
@@ -71,7 +71,7 @@ module _ (x : Script) (entry : ℕ) (fit : Auditable x entry) {q : ℕ} {k : Kno
     blamed Fault.HalfData b = let two = sees Fault.HalfData b .1 in (witness x entry fit w (two .0), witness x entry fit w (two .1), 65536, refl, two .2)
     blamed Fault.Outside b = (witness x entry fit w plain, brought x entry fit w plain, sees Fault.Outside b)
     blamed Fault.Unreleased b = (
-      (witness x entry fit w plain, brought x entry fit w plain, sees Fault.Unreleased b),
+      (witness x entry fit w plain, brought x entry fit w plain, sees Fault.Unreleased b .waits),
       λ name s start log. stuck x (rw (b .2) at e) (b .3) (fit .fits) start log,
     )
     blamed Fault.Paused b = let h = sees Fault.Paused b in (witness x entry fit w plain, brought x entry fit w plain, h .0, h .1, h .2)

@@ -21,7 +21,7 @@ use Rattle.ewaits.proofs.EwaitLaws.{ewait-on-reading}
 use Rattle.actions.specs.Action.{mergeOf}
 use Rattle.state.specs.Slot.{slotOf}
 use Rattle.state.proofs.SlotLaws.{slot-back}
-use Rattle.time.specs.Time.{afterEwait, elapsedOf}
+use Rattle.time.specs.Time.{afterEwait}
 use Rattle.turn.specs.Turn.{performOf, unfetched}
 use Rattle.actions.specs.declared.actions.Action.{Action}
 use Rattle.actions.specs.declared.actions.Part.{Part}
@@ -54,22 +54,29 @@ use Rattle.verdict.proofs.Starts.{begun-agrees, slot-follows, effect-fo
 
 -- ---- an ewait that nothing can release
 
+-- in a wait with the log used up
+pub record Stuck (log : Log) (r : SlotRun) : Type 0 where
+  pub waits : r .slot .mode ≡ Mode.Waiting
+  pub row : r .place .row ≡ length (log .clocks)
+  pub used : r .place .used ≡ 0
+
 -- a row that releases it would have a reading that no row has
 ewait-unfinished : (log : Log) (event value rows : ℕ) (r : Released) → OnReading log event value r → canRelease event value ≡ false
-    → afterEwait rows r .finished ≡ false
+    → (afterEwait rows r .finished ≡ false) × (afterEwait rows r .place .row ≡ rows) × (afterEwait rows r .place .used ≡ 0)
 unfolding canRelease
 ewait-unfinished log event value rows (Released.At p n) o c =
     let small : value < 2 = omega (arith, o .2) in
     never (cc (lt-ltb event 32 (o .0), lt-ltb value 2 small))
-ewait-unfinished log event value rows (Released.End n) o c = refl
+ewait-unfinished log event value rows (Released.End n) o c = (refl, refl, refl)
 
--- a run at it waits after its turn
-pub stuck-waits : (x : Script) {p t event value : ℕ} → Reads x p (Action.Ewait event value) t → canRelease event value ≡ false
-    → (log : Log) {r : SlotRun} → Going p r → next (sceneUnder x log) r .slot .mode ≡ Mode.Waiting
-stuck-waits x {event = event} {value = value} e c log {r} g =
-    let cut : elapsedOf (Action.Ewait event value) log (r .place) .finished ≡ false
-    = ewait-unfinished log event value (length (log .clocks)) (ewaitOf log (r .place) event value) (ewait-on-reading log event value (r .place)) c in
-    mode-then x true log g e ∙ rw cut refl
+-- so is a run at it, after its turn
+pub stuck-there : (x : Script) {p t event value : ℕ} → Reads x p (Action.Ewait event value) t → canRelease event value ≡ false
+    → (log : Log) {r : SlotRun} → Going p r → Stuck log (next (sceneUnder x log) r)
+unfolding performOf
+stuck-there x {event = event} {value = value} e c log {r} g =
+    let cut = ewait-unfinished log event value (length (log .clocks)) (ewaitOf log (r .place) event value) (ewait-on-reading log event value (r .place)) c in
+    let same = ap (λ (turn : Turn). turn .place) (performs x true log g e) in
+    record { waits = mode-then x true log g e ∙ rw (cut .0) refl; row = rw same (cut .1); used = rw same (cut .2) }
 
 -- a low half leaves the high one
 merge-high : (addr operand : ℕ) → mergeOf Part.Low addr operand / 65536 ≡ addr / 65536
@@ -235,7 +242,8 @@ module _ (x : Script) (entry : ℕ) (fit : Auditable x entry) {q : ℕ} {k : Kno
       rw (poke-addr (b .0) (b .1) (slotOf s name .addr .0) (slot-run start .slot .addr .0) (b .2) (k .addr) (b .4) (agrees start .held)) (b .5),
     )
     blamed-sees action m Fault.Unreleased e b =
-        ap (λ (r : SlotRun). r .slot .mode) (after start) ∙ stuck-waits x (rw (b .2) at e) (b .3) log (agrees start .going)
+        let h = subst (Stuck log) (sym (after start)) (stuck-there x (rw (b .2) at e) (b .3) log (agrees start .going)) in
+        record { waits = h .waits; row = h .row; used = h .used }
     blamed-sees action m Fault.Paused e b = let h = exited start (rw (b .0) at e) in (h .idle, h .ip, h .paused ∙ b .1)
     blamed-sees action m Fault.Input e b = absurd b
 

@@ -31,7 +31,7 @@ use Rattle.script.specs.Input.{listedIn, inputFits}
 use Rattle.run.specs.Run.{Run}
 use Rattle.verdict.specs.Auditor.{pokeCount}
 use Rattle.verdict.specs.Start.{Start, MasksInType}
-use Rattle.verdict.specs.Demand3.{AtPlace, Exact, Witness, runOf, nextEffect, runAfter, WriteDifferently, withAddr, withData}
+use Rattle.verdict.specs.Demand3.{AtPlace, InWait, Exact, Witness, runOf, nextEffect, runAfter, WriteDifferently, withAddr, withData}
 use Rattle.verdict.specs.declared.verdicts.Verdict.{Verdict}
 
 -- ---- the rows that a script asks for
@@ -148,8 +148,8 @@ module _ (family : ℕ) (code marks : List ℕ) (entry : ℕ) (ranges : List ℕ
           ((address : ℕ) × (word : ℕ) × (effect start ≡ Effect.Wrote (record { 0 = address }) word) × (word / 65536 ≡ slotOf s name .«data» / 65536))
           × (Differ place name (withDATA 0) (withDATA (secondData (faultNumber Fault.HalfData))))
       Sees Fault.Outside = (address : ℕ) × (word : ℕ) × (effect start ≡ Effect.Wrote (record { 0 = address }) word) × (listedIn ranges address ≡ false)
-      -- 7: it waits; that no log releases it is demand 3's
-      Sees Fault.Unreleased = slotOf (after start .state) name .mode ≡ Mode.Waiting
+      -- 7: it waits with the log used up; that no log releases it is demand 3's
+      Sees Fault.Unreleased = InWait family code marks entry ranges name log (after start)
       Sees Fault.Paused = (slotOf (after start .state) name .mode ≡ Mode.Idle) × (slotOf (after start .state) name .ip .0 ≡ place)
           × (pausedOf family (after start .state .flags) ≡ true)
       -- 9 is no fault of a script
