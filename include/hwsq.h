@@ -106,9 +106,9 @@ struct hwsq_verdict hwsq_audit(uint8_t family, const uint8_t *code, size_t code_
 
 struct hwsq_shown {
     uint8_t refusal;
-    uint8_t verdict; /* this, place, count and clocks as in hwsq_verdict */
-    uint32_t addr;   /* of 4 ADDR, of 5 DATA of a second start, else both 0; the first start has 0 in both */
-    uint32_t data;
+    uint8_t verdict; /* this, place, count and clocks as in hwsq_verdict; refused: the refusal, since 0 would be a pass */
+    uint32_t addr;   /* ADDR of the second start: 65536 for verdict 4, else 0 */
+    uint32_t data;   /* its DATA: 65536 for verdict 5, else 0. The first start has 0 in both */
     size_t place;
     size_t count;
     uint64_t clocks;
@@ -118,11 +118,12 @@ struct hwsq_shown {
 };
 
 /* The verdict on a script, and a log that shows it (docs/LIBRARY.md): under that log so many steps bring every start to the
- * place, in whichever slot, and the next step shows the fault. Of 4 and 5 that step writes at an address, or a word, with the
- * high half that the start's ADDR, or DATA, had: with 0 there and with addr, or data, it writes differently. A start is a state
- * with the script uploaded, one slot running at the entry, HWSQ_ENABLE 1 and memory not paused. The log is valid for hwsq_replay
- * and hwsq_step; the entries past it stay as lent. Refuses, in this order: 9 as hwsq_audit does; 14 fewer than 171 entries lent
- * in a column. Refused, it writes nothing. */
+ * place, in whichever slot, and the next step shows the fault. Of 4 and 5 that step writes at an address, or a word, with
+ * the high half that the start's ADDR, or DATA, had, so that the first and the second start write differently. A start is a
+ * state of the family with the bytes marked 1 uploaded and no others, one slot executing with IP at the entry, any other slot
+ * idle, HWSQ_ENABLE 1 and memory not paused. The log is one that hwsq_replay and hwsq_step take; the entries past it stay as
+ * lent. Refuses, in this order: 9 as hwsq_audit does; 14 fewer than 171 entries lent in a column. Refused, it writes
+ * nothing. */
 struct hwsq_shown hwsq_witness(uint8_t family, const uint8_t *code, size_t code_len, const uint8_t *marks,
                                size_t marks_len, size_t entry, const uint32_t *ranges, size_t ranges_len,
                                uint64_t *clocks, size_t clocks_len, uint32_t *known, size_t known_len, uint32_t *values,

@@ -65,7 +65,7 @@ pub fn line(script: &Script) -> Line {
         name: script.name.clone(),
         proved,
         second,
-        plain: Some(plain),
+        third: Some(plain),
     };
     line.print();
     line

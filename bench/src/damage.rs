@@ -6,6 +6,7 @@ use crate::logs;
 use crate::replays;
 use crate::reports;
 use crate::scripts::{self, ranges, Script};
+use crate::witnesses;
 use hwsq::REPORT_SIZE;
 
 const SCRIPTS: usize = 24_000;
@@ -73,5 +74,8 @@ pub fn agree() {
         damaged_job(&mut job, &mut random);
         reports::agreed(&job, &mut out);
     }
-    println!("same answers on {SCRIPTS} damaged scripts audited, {SCRIPTS} replayed, and {JOBS} damaged jobs");
+    damaged(scripts::witnessed, &mut random, |script| {
+        witnesses::agreed(script, &ranges);
+    });
+    println!("same answers on {SCRIPTS} damaged scripts audited, {SCRIPTS} replayed, {SCRIPTS} with witnesses, and {JOBS} damaged jobs");
 }

@@ -1,11 +1,13 @@
-//! A log of 1,024 rows that a script's waits walk from its start to about its end.
+//! A log of 1,024 rows that a script's waits walk from its start to about its end, and columns for a witness.
 
 use crate::scripts::Script;
+use hwsq::SHOWN_ROWS;
 
 const ROWS: usize = 1_024;
 /// A wait of 128 clocks passes eight rows.
 const ROW_CLOCKS: u64 = 16;
 
+#[derive(Debug, PartialEq)]
 pub struct Log {
     pub clocks: Vec<u64>,
     pub known: Vec<u32>,
@@ -22,7 +24,29 @@ pub fn walked_by(script: &Script) -> Log {
     }
 }
 
+/// As many entries as a witness asks for, with what no log of one holds.
+pub fn unwritten() -> Log {
+    Log {
+        clocks: vec![7; SHOWN_ROWS],
+        known: vec![7; SHOWN_ROWS],
+        values: vec![7; SHOWN_ROWS],
+    }
+}
+
 impl Log {
+    pub fn lend(&mut self) -> hwsq::Columns<'_> {
+        let Log {
+            clocks,
+            known,
+            values,
+        } = self;
+        hwsq::Columns {
+            clocks,
+            known,
+            values,
+        }
+    }
+
     pub fn columns(&self) -> hwsq::Log<'_> {
         let Log {
             clocks,

@@ -10,6 +10,7 @@ mod reports;
 mod scripts;
 mod table;
 mod timing;
+mod witnesses;
 
 use std::process::ExitCode;
 use table::Line;
@@ -26,12 +27,21 @@ fn main() -> ExitCode {
     audits::line(&scripts::at_once("audit, fails at the first byte"));
     replays::line(&scripts::at_once("replay, stops at the first byte"));
     report_lines();
+    witness_lines();
     let (ratio, name) = table::worst(&limited, Line::to_second);
     println!("worst of audit and replay to the second program: {ratio:.2}, {name}");
     let (ratio, name) = table::worst(&limited, Line::ratio);
     println!("worst of audit and replay to the faster of the others: {name}");
     println!("ratio {ratio:.2}");
     ExitCode::from(u8::from(ratio > LIMIT))
+}
+
+fn witness_lines() {
+    table::columns("audit");
+    let lines: Vec<Line> = scripts::witnessed().iter().map(witnesses::line).collect();
+    witnesses::line(&scripts::at_once("witness, fails at the first byte"));
+    let (ratio, name) = table::worst(&lines, Line::to_third);
+    println!("worst of a witness to the audit of its script: {ratio:.2}, {name}");
 }
 
 fn report_lines() {

@@ -61,7 +61,7 @@ pub fn line(script: &Script) -> Line {
         name: script.name.clone(),
         proved,
         second,
-        plain: None,
+        third: None,
     };
     line.print();
     line

@@ -24,7 +24,7 @@ pub fn line(name: &str, job: &[u8]) -> Line {
         name: format!("report, {name}"),
         proved,
         second,
-        plain: None,
+        third: None,
     };
     line.print();
     line

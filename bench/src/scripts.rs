@@ -49,12 +49,22 @@ pub fn ranges() -> Vec<u32> {
 
 /// What the auditor is timed on.
 pub fn audited() -> Vec<Script> {
-    let kinds = [
+    both_ways("audit", &without_ewaits())
+}
+
+/// What the witness is timed on: what the auditor is, and ewaits alone, which make the longest log.
+pub fn witnessed() -> Vec<Script> {
+    let mut kinds = Vec::from(without_ewaits());
+    kinds.push(("ewaits", ewaits()));
+    both_ways("witness", &kinds)
+}
+
+fn without_ewaits() -> [(&'static str, Body); 3] {
+    [
         ("addr and data", whole_pokes(false)),
         ("addrlo", low_pokes(false)),
         ("one-byte", single_bytes()),
-    ];
-    both_ways("audit", &kinds)
+    ]
 }
 
 /// What replay is timed on: the same kinds, with ewaits and waits between the pokes, and ewaits alone.

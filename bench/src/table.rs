@@ -2,12 +2,12 @@
 
 use crate::timing::ROUNDS;
 
-/// Best times in nanoseconds; of the plain auditor where it has a part in the measure.
+/// Best times in nanoseconds; of an audit the third is the plain auditor's, of a witness the proved audit's.
 pub struct Line {
     pub name: String,
     pub proved: f64,
     pub second: f64,
-    pub plain: Option<f64>,
+    pub third: Option<f64>,
 }
 
 impl Line {
@@ -15,21 +15,22 @@ impl Line {
         self.proved / self.second
     }
 
+    /// Against the third, or the second where there is none.
+    pub fn to_third(&self) -> f64 {
+        self.proved / self.third.unwrap_or(self.second)
+    }
+
     /// Against the faster of the others, which the limit is set by.
     pub fn ratio(&self) -> f64 {
-        let faster = match self.plain {
-            Some(plain) => plain.min(self.second),
-            None => self.second,
-        };
-        self.proved / faster
+        self.to_second().max(self.to_third())
     }
 
     pub fn print(&self) {
         let (name, proved, second) = (&self.name, self.proved, self.second);
         let to_second = self.to_second();
         print!("{name:<48}{proved:>9.0}{second:>9.0}{to_second:>7.2}");
-        match self.plain {
-            Some(plain) => println!("{plain:>9.0}{:>7.2}", proved / plain),
+        match self.third {
+            Some(third) => println!("{third:>9.0}{:>7.2}", self.to_third()),
             None => println!(),
         }
     }
@@ -37,10 +38,15 @@ impl Line {
 
 pub fn head() {
     println!("nanoseconds a call, best of {ROUNDS} rounds; ratio is proved over the one before it");
+    columns("plain");
+}
+
+/// The names of the columns, and what the third time is of.
+pub fn columns(third: &str) {
     let [name, proved, second] = ["measure", "proved", "second"];
     println!(
-        "{name:<48}{proved:>9}{second:>9}{0:>7}{1:>9}{0:>7}",
-        "ratio", "plain"
+        "{name:<48}{proved:>9}{second:>9}{0:>7}{third:>9}{0:>7}",
+        "ratio"
     );
 }
 

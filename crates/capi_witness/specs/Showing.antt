@@ -34,8 +34,9 @@ toldOf (Verdict.Fault fault place) shown = toldReply (faultNumber fault) place 0
 abbrev pub shownReply : Shown → WitnessReply
 shownReply shown = toldOf (shown .verdict) shown
 
+-- refused: there is no verdict, and 0 would be a pass
 abbrev pub unshownReply : ℕ → WitnessReply
-unshownReply refusal = record { refusal = refusal; verdict = 0; addr = 0; «data» = 0; place = 0; count = 0; clocks = 0; rows = 0; steps = 0; writes = 0 }
+unshownReply refusal = record { refusal = refusal; verdict = refusal; addr = 0; «data» = 0; place = 0; count = 0; clocks = 0; rows = 0; steps = 0; writes = 0 }
 
 abbrev pub witnessReply : WitnessAnswer → WitnessReply
 witnessReply (WitnessAnswer.Shown shown) = shownReply shown

@@ -12,7 +12,7 @@ use witness::WitnessAnswer;
 pub struct WitnessReply {
     // 0, 9 or 14
     pub refusal: u8,
-    // this, place, count and clocks as hwsq_audit gives them
+    // this, place, count and clocks as hwsq_audit gives them; refused: the refusal
     pub verdict: u8,
     // ADDR and DATA of the second start that 4 and 5 take; the first has 0 in both
     pub addr: u32,
@@ -62,8 +62,8 @@ fn witness_reply(answer: WitnessAnswer) -> WitnessReply
     }
 }
 
-// The high half that differs, where this register is the one that matters.
-fn second(matters: bool) -> u32
+// What the second start has in a register: 65536 in the one that matters.
+fn second_word(matters: bool) -> u32
     ensures { λ r. ⌜ r ≡ cond matters 65536 0 ⌝ }
 {
     if matters { 65536 } else { 0 }
@@ -98,8 +98,8 @@ fn told_reply(
     WitnessReply {
         refusal: 0,
         verdict,
-        addr: second(verdict == 4),
-        data: second(verdict == 5),
+        addr: second_word(verdict == 4),
+        data: second_word(verdict == 5),
         place: place.0,
         count,
         clocks,
@@ -114,7 +114,7 @@ fn unshown_reply(refusal: u8) -> WitnessReply
 {
     WitnessReply {
         refusal,
-        verdict: 0,
+        verdict: refusal, // 0 would be a pass
         addr: 0,
         data: 0,
         place: 0,

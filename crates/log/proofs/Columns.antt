@@ -1,7 +1,7 @@
 -- Rows put at the beginning of lent columns: they can be read back, leave the columns' lengths, and more can be put after them. Assumes nothing.
 use Prim.Native.Nat.{ℕ, _+_, _≤_}
 use mathlib.Core.Path.{_≡_, refl, sym, ap, _∙_}
-use mathlib.Core.List.{List, [], _∷_, _++_, map}
+use mathlib.Core.List.{List, _++_, map, map-append}
 use native.Mathlib.Omega.{arith}
 use lib.ListN.{length, take, drop, length-append, length-drop, length-map}
 use lib.Seq.{sets, sets-eq, take-at, drop-append-add, drop-drop}
@@ -29,10 +29,6 @@ column-more lent column more h =
     sets-eq more (columnInto lent column) n room ∙ rw (column-first lent column, back) refl
 
 -- ---- the column of one field of rows
-
-map-append : (f : Row → ℕ) (a b : List Row) → map f (a ++ b) ≡ map f a ++ map f b
-map-append f [] b = refl
-map-append f (x ∷ a) b = ap (λ (l : List ℕ). f x ∷ l) (map-append f a b)
 
 module _ (f : Row → ℕ) (lent : List ℕ) (rows : List Row) where
   field-length : length rows ≤ length lent → length (columnInto lent (map f rows)) ≡ length lent

@@ -72,16 +72,17 @@ fn lend(ram: Ram, asked: Asked, ranges: &[u32], lent: Lent) {
     if LENT < lent.known {
         return;
     }
-    if lent.values <= LENT {
-        tell(
-            ram,
-            asked,
-            ranges,
-            &mut clocks[..lent.clocks],
-            &mut known[..lent.known],
-            &mut values[..lent.values],
-        );
+    if LENT < lent.values {
+        return;
     }
+    tell(
+        ram,
+        asked,
+        ranges,
+        &mut clocks[..lent.clocks],
+        &mut known[..lent.known],
+        &mut values[..lent.values],
+    );
 }
 
 fn tell<'a>(

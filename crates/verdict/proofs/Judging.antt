@@ -11,7 +11,7 @@ use Rattle.turn.specs.Turn.{modeAfter, ipAfter, addrAfter, effectOf}
 use Rattle.actions.specs.declared.actions.Action.{Action}
 use Rattle.actions.specs.declared.actions.Part.{Part}
 use Rattle.state.specs.declared.slots.Mode.{Mode}
-use Rattle.verdict.specs.Auditor.{targetOf, judgePoke, canRelease, judgeOf, knownAddr}
+use Rattle.verdict.specs.Auditor.{targetOf, judgePoke, canRelease, Releasable, judgeOf, knownAddr}
 use Rattle.verdict.specs.Demand3.{AllListed}
 use Rattle.script.specs.Input.{listedIn}
 use Rattle.run.specs.Run.{wroteBy}
@@ -44,7 +44,7 @@ module _ (family : ℕ) (ranges : List ℕ) where
     pub moves : (at next : ℕ) → ipAfter action at next ≡ next
     pub addr : (start addr : ℕ) → addr ≡ heldAddr (k .addr) start → addrAfter action addr ≡ heldAddr (knownAddr action (k .addr)) start
     pub listed : (start addr word : ℕ) → addr ≡ heldAddr (k .addr) start → AllListed ranges (wroteBy (effectOf action true addr word))
-    pub event : (event value : ℕ) → action ≡ Action.Ewait event value → canRelease event value ≡ true
+    pub event : Releasable action
     pub writes : (start start′ addr addr′ word word′ : ℕ) → addr ≡ heldAddr (k .addr) start → addr′ ≡ heldAddr (k .addr) start′ → (k .«data» ≡ true → word ≡ word′)
         → wroteBy (effectOf action true addr word) ≡ wroteBy (effectOf action true addr′ word′)
 

@@ -38,7 +38,7 @@ use Rattle.script.proofs.Scripts.{Script, Auditable, fetchAt, Reads}
 use Rattle.verdict.specs.Auditor.{faultOf, canRelease, knowNothing}
 use Rattle.verdict.specs.Demand3.{AtPlace, Exact, Witness, WriteDifferently, withAddr, withData}
 use Rattle.verdict.specs.Start.{Start}
-use Rattle.verdict.specs.Witness.{writesOver, run, Differ, Sees, ShownFrom, ShownBy}
+use Rattle.verdict.specs.Witness.{writesOver, witnessFrom, placeOf, Differ, Sees, ShowsVerdict, ShownFrom, ShownBy}
 use Rattle.verdict.specs.declared.verdicts.KnownAddress.{KnownAddress}
 use Rattle.verdict.specs.declared.verdicts.Knowledge.{Knowledge}
 use Rattle.verdict.specs.declared.verdicts.Verdict.{Verdict}
@@ -110,13 +110,13 @@ module _ (x : Script) (entry : ℕ) (fit : Auditable x entry) {q : ℕ} {k : Kno
 
   module _ {name : SlotName} {s : State} (start : StartIn name s) where
     abbrev pub witness : Witness (x .family) (x .code) (x .marks) entry (x .ranges)
-    witness = run (x .family) (x .code) (x .marks) entry (x .ranges) log (witness-valid x w) (witness-masks x w) steps start
+    witness = witnessFrom (x .family) (x .code) (x .marks) entry (x .ranges) log (witness-valid x w) (witness-masks x w) steps start
 
     -- its slot's run
     abbrev slot-run : SlotRun
     slot-run = slotRunFor scene steps (slotBegun (slotOf s name) (s .flags))
 
-    arrived : Arrived x log (slotOf s name .addr .0) (slotOf s name .«data») q k slot-run
+    arrived : Arrived x log (slotOf s name .addr .0) (slotOf s name .«data») q k (length (witnessRows x w)) slot-run
     arrived = reach x w (begun-agrees x entry start)
 
     agrees : Agree x (slotOf s name .addr .0) (slotOf s name .«data») q k slot-run
@@ -249,9 +249,12 @@ module _ (x : Script) (entry : ℕ) (fit : Auditable x entry) {q : ℕ} {k : Kno
 
     -- ---- the verdict
 
-    abbrev Shown : Verdict → Type 0
-    Shown v =
+    abbrev From : Verdict → Type 0
+    From v =
         ShownFrom (x .family) (x .code) (x .marks) entry (x .ranges) log (witness-valid x w) (witness-masks x w) steps (writesOver (actionsOf x w)) v start
+
+    counted : runFor name log steps (begun s) .count ≡ steps
+    counted = ap (λ (r : SlotRun). r .count) (same start) ∙ omega (arith, agrees start .count, walk-counts x w)
 
     wrote : length (runFor name log steps (begun s) .writes) ≡ writesOver (actionsOf x w)
     wrote = ap (λ (r : SlotRun). length (r .writes)) (same start) ∙ omega (arith, agrees start .writes, walk-writes x w)
@@ -259,15 +262,25 @@ module _ (x : Script) (entry : ℕ) (fit : Auditable x entry) {q : ℕ} {k : Kno
     one-left : leftOf (log .clocks) (runFor name log steps (begun s) .place) ≡ 1
     one-left = ap (λ (r : SlotRun). leftOf (log .clocks) (r .place)) (same start) ∙ arrived start .one-left
 
-    shown-from : {v : Verdict} → Ends x q k v → Shown v
-    shown-from (at-refused why e) = record { there = brought start; wrote = wrote; one-left = one-left; shows = refused-sees why e }
-    shown-from (at-bad action n fault e b) = record { there = brought start; wrote = wrote; one-left = one-left; shows = blamed-sees action n fault e b }
-    shown-from (at-exit n e unpaused) = record {
-      there = brought start;
-      wrote = wrote;
-      one-left = one-left;
-      shows = (omega (arith, walk-counts x w), exact-in x entry unpaused name (runFor name log (suc steps) (begun s)) (exited start e));
-    }
+    passed-by : suc (runFor name log steps (begun s) .ewaits) ≡ length (log .clocks)
+    passed-by = ap (λ (r : SlotRun). suc (r .ewaits)) (same start) ∙ arrived start .passed-by ∙ sym (length-map (witnessRows x w) (λ (r : Row). r .clocks))
+
+    -- what the next step shows
+    shows : {v : Verdict} → Ends x q k v → ShowsVerdict (x .family) (x .code) (x .marks) entry (x .ranges) log (witness-valid x w) (witness-masks x w) steps start v
+    shows (at-refused why e) = refused-sees why e
+    shows (at-bad action n fault e b) = blamed-sees action n fault e b
+    shows (at-exit n e unpaused) =
+        (omega (arith, walk-counts x w), exact-in x entry unpaused name (runFor name log (suc steps) (begun s)) (exited start e))
+
+    -- and that the steps before it bring the start there
+    there : {v : Verdict} → Ends x q k v → AtPlace (x .family) (x .code) (x .marks) entry (x .ranges) name (placeOf v) (runFor name log steps (begun s))
+    there (at-refused why e) = brought start
+    there (at-bad action n fault e b) = brought start
+    there (at-exit n e unpaused) = brought start
+
+    shown-from : {v : Verdict} → Ends x q k v → From v
+    shown-from ends =
+        record { there = there ends; counted = counted; wrote = wrote; one-left = one-left; passed-by = passed-by; shows = shows ends }
 
   pub shown-by : {v : Verdict} → Ends x q k v → ShownBy (x .family) (x .code) (x .marks) entry (x .ranges) log steps (writesOver (actionsOf x w)) v
   shown-by ends = record {

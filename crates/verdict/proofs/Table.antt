@@ -41,4 +41,4 @@ starred = (
 
 pub worked-logs : WorkedLogs
 unfolding auditOf scriptFits rangesFit byFamily verdictIn fetchOf allMarked decodeOf opcodeAt waitClocks canRelease actionsTo hasReading
-worked-logs = ((refl, refl, refl), (refl, refl, refl), (refl, refl, refl), (refl, refl, refl), (refl, refl, refl))
+worked-logs = ((refl, refl, refl), (refl, refl, refl), (refl, refl, refl), (refl, refl, refl), (refl, refl, refl), refl)

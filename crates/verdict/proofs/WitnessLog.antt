@@ -19,9 +19,9 @@ use Rattle.log.specs.declared.row.Row.{Row}
 use Rattle.actions.specs.Action.{actionOf}
 use Rattle.actions.specs.declared.actions.Action.{Action}
 use Rattle.script.proofs.Scripts.{Script, Formed, Reads}
-use Rattle.verdict.specs.Auditor.{canRelease, waitLength, knowNext, knowNothing}
+use Rattle.verdict.specs.Auditor.{canRelease, Releasable, waitLength, knowNext, knowNothing}
 use Rattle.verdict.specs.Start.{MasksInType}
-use Rattle.verdict.specs.Witness.{firstRow, eventRow, releases, rowAfter, rowsLeft, rowsOver, maxShown}
+use Rattle.verdict.specs.Witness.{firstRow, eventRow, releases, rowAfter, rowsEnded, rowsOver, maxShown}
 use Rattle.verdict.specs.declared.verdicts.Knowledge.{Knowledge}
 use Rattle.verdict.proofs.Cases.{below-at}
 use Rattle.verdict.proofs.Walk.{Walk, here, more, actionsOf}
@@ -66,36 +66,36 @@ row-mask event value c =
     by (suc zero) l h = omega arith
     by (suc (suc v)) l h = absurd (omega arith)
 
--- it has the clocks that were waited in it and one to spare, and masks of 32 bits; c were waited by now
-pub record Made (c : ℕ) (row : Row) : Type 0 where
+-- clocks that were waited in it and one to spare, and masks of 32 bits; c were waited by now
+pub record RowFits (c : ℕ) (row : Row) : Type 0 where
   pub least : 1 ≤ row .clocks
   pub most : row .clocks ≤ suc c
   pub known-bits : row .known < 2 ^ 32
   pub value-bits : row .values < 2 ^ 32
 
-pub made-first : Made 0 firstRow
-made-first = record { least = omega arith; most = omega arith; known-bits = lit< tt; value-bits = lit< tt }
+pub first-fits : RowFits 0 firstRow
+first-fits = record { least = omega arith; most = omega arith; known-bits = lit< tt; value-bits = lit< tt }
 
-longer : {c : ℕ} {row : Row} (n : ℕ) → Made c row → Made (c + n) (record { clocks = row .clocks + n; known = row .known; values = row .values })
+longer : {c : ℕ} {row : Row} (n : ℕ) → RowFits c row → RowFits (c + n) (record { clocks = row .clocks + n; known = row .known; values = row .values })
 longer n m = record { least = omega (arith, m .least); most = omega (arith, m .most); known-bits = m .known-bits; value-bits = m .value-bits }
 
-same-row : {c : ℕ} {row : Row} → Made c row → Made (c + 0) row
+same-row : {c : ℕ} {row : Row} → RowFits c row → RowFits (c + 0) row
 same-row m = record { least = m .least; most = omega (arith, m .most); known-bits = m .known-bits; value-bits = m .value-bits }
 
-pub made-after : (action : Action) (row : Row) (c : ℕ) → ((event value : ℕ) → action ≡ Action.Ewait event value → canRelease event value ≡ true) → Made c row
-    → Made (c + waitLength action) (rowAfter action row)
-made-after (Action.Wait n) row c r m = longer n m
-made-after (Action.Ewait event value) row c r m = by (releases row event value)
+pub row-fits-after : (action : Action) (row : Row) (c : ℕ) → Releasable action → RowFits c row
+    → RowFits (c + waitLength action) (rowAfter action row)
+row-fits-after (Action.Wait n) row c r m = longer n m
+row-fits-after (Action.Ewait event value) row c r m = by (releases row event value)
   where
-    by : (b : Bool) → Made (c + 0) (cond b row (eventRow event value))
+    by : (b : Bool) → RowFits (c + 0) (cond b row (eventRow event value))
     by true = same-row m
     by false =
         let h = row-mask event value (r event value refl) in
         record { least = omega arith; most = omega arith; known-bits = h .0; value-bits = h .1 }
-made-after (Action.Flag change flag) row c r m = same-row m
-made-after (Action.Load part word) row c r m = same-row m
-made-after (Action.Poke part word) row c r m = same-row m
-made-after Action.Exit row c r m = same-row m
+row-fits-after (Action.Flag change flag) row c r m = same-row m
+row-fits-after (Action.Load part word) row c r m = same-row m
+row-fits-after (Action.Poke part word) row c r m = same-row m
+row-fits-after Action.Exit row c r m = same-row m
 
 -- ---- what holds of the rows of a log
 
@@ -115,7 +115,7 @@ mask-more mask rest h r (suc i) = r i
 abbrev longest : ℕ
 longest = 52776558133248
 
-one-more : {c : ℕ} (row : Row) (rows : List Row) → Made c row → c ≤ longest → InLog rows → InLog (row ∷ rows)
+one-more : {c : ℕ} (row : Row) (rows : List Row) → RowFits c row → c ≤ longest → InLog rows → InLog (row ∷ rows)
 one-more row rows m h r = record {
   range = rw (le-leb 1 (row .clocks) (m .least), le-leb (row .clocks) (2 ^ 48) (omega (arith, m .most)), r .range) refl;
   masks = record {
@@ -124,7 +124,7 @@ one-more row rows m h r = record {
   };
 }
 
-left-more : {c : ℕ} (action : Action) (row : Row) (later : List Row) → Made c row → c ≤ longest → InLog later → InLog (rowsLeft action row ++ later)
+left-more : {c : ℕ} (action : Action) (row : Row) (later : List Row) → RowFits c row → c ≤ longest → InLog later → InLog (rowsEnded action row ++ later)
 left-more (Action.Wait n) row later m h r = r
 left-more (Action.Ewait event value) row later m h r = by (releases row event value)
   where
@@ -139,7 +139,7 @@ left-more Action.Exit row later m h r = r
 -- ---- how many rows
 
 -- a row is left behind for three bytes
-pub left-size : (i : Instruction) (n : ℕ) (row : Row) → n ≡ sizeOf (opcodeOf i) → 3 * length (rowsLeft (actionOf i) row) ≤ n
+pub left-size : (i : Instruction) (n : ℕ) (row : Row) → n ≡ sizeOf (opcodeOf i) → 3 * length (rowsEnded (actionOf i) row) ≤ n
 left-size (Instruction.Wait l s) n row e = omega arith
 left-size (Instruction.AddrLo a) n row e = omega arith
 left-size (Instruction.DataLo d) n row e = omega arith
@@ -156,7 +156,7 @@ left-size (Instruction.Addr a) n row e = omega arith
 left-size (Instruction.Data d) n row e = omega arith
 
 module _ (x : Script) where
-  pub reads-size : {p n : ℕ} {action : Action} (e : Reads x p action n) (row : Row) → 3 * length (rowsLeft action row) ≤ n
+  pub reads-size : {p n : ℕ} {action : Action} (e : Reads x p action n) (row : Row) → 3 * length (rowsEnded action row) ≤ n
   reads-size {p} {n} e row =
       let lies = rw (e .found) at (fetch-lies (x .family) (x .code) (x .marks) p) in
       rw (e .acts) at (left-size (e .instruction) n row (lies .0))
@@ -165,23 +165,23 @@ module _ (x : Script) where
   rows-most here row = omega arith
   rows-most (more action n e f w) row =
       let next = rowAfter action row in
-      omega (arith, length-append (rowsLeft action row) (rowsOver (actionsOf x w) next), reads-size e row, rows-most w next, e .inside)
+      omega (arith, length-append (rowsEnded action row) (rowsOver (actionsOf x w) next), reads-size e row, rows-most w next, e .inside)
 
   pub witness-few : {p q : ℕ} {k l : Knowledge} (w : Walk x p k q l) → length (witnessRows x w) ≤ maxShown
   witness-few w = omega (arith, rows-most w firstRow, size-small (x .family))
 
-  in-log : {p q : ℕ} {k l : Knowledge} (w : Walk x p k q l) (row : Row) → Bounded p k → k .clocks ≤ longest → Made (k .clocks) row
+  in-log : {p q : ℕ} {k l : Knowledge} (w : Walk x p k q l) (row : Row) → Bounded p k → k .clocks ≤ longest → RowFits (k .clocks) row
       → InLog (rowsOver (actionsOf x w) row)
   in-log here row b h m = one-more row [] m h no-rows
   in-log {k = k} (more action n e f w) row b h m =
       let next = bounded-next action (e .formed) (e .some) b in
       left-more action row (rowsOver (actionsOf x w) (rowAfter action row)) m h
       (in-log w (rowAfter action row) next (omega (arith, next .count, next .clocks, e .inside, size-small (x .family)))
-      (made-after action row (k .clocks) (f .event) m))
+      (row-fits-after action row (k .clocks) (f .event) m))
 
   module _ {entry q : ℕ} {l : Knowledge} (w : Walk x entry knowNothing q l) where
     rows-in-log : InLog (witnessRows x w)
-    rows-in-log = in-log w firstRow bounded-start (omega arith) made-first
+    rows-in-log = in-log w firstRow bounded-start (omega arith) first-fits
 
     pub witness-valid : validLog (witnessLog x w) ≡ true
     unfolding validLog

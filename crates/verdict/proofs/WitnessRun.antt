@@ -5,7 +5,7 @@ use mathlib.Core.Bool.{Bool, true, false, cond, _&&_}
 use mathlib.Core.List.{List, [], _∷_, _++_}
 use native.Mathlib.Omega.{arith}
 use lib.Dec.{ltb, lit<}
-use lib.ListN.{length, getD, drop, length-map, length-drop}
+use lib.ListN.{length, getD, drop, length-map, length-drop, length-append}
 use borrow.Author.Tests.{ltb-true}
 use Rattle.isa.proofs.Tests.{both-left, both-right}
 use Rattle.log.specs.Log.{Log}
@@ -26,8 +26,8 @@ use Rattle.turn.specs.Turn.{performOf}
 use Rattle.turn.specs.declared.turn.Turn.{Turn}
 use Rattle.run.specs.SlotRun.{SlotRun, slotBegun, slotRunFor}
 use Rattle.script.proofs.Scripts.{Script}
-use Rattle.verdict.specs.Auditor.{canRelease, knowNothing}
-use Rattle.verdict.specs.Witness.{firstRow, eventRow, releases, rowAfter, rowsLeft, rowsOver}
+use Rattle.verdict.specs.Auditor.{canRelease, Releasable, knowNothing}
+use Rattle.verdict.specs.Witness.{firstRow, eventRow, releases, rowAfter, rowsEnded, rowsOver}
 use Rattle.verdict.specs.declared.verdicts.Knowledge.{Knowledge}
 use Rattle.verdict.proofs.Cases.{never, below-at}
 use Rattle.verdict.proofs.Going.{sceneUnder, performs}
@@ -58,7 +58,7 @@ record Continues (row : Row) (rows : List Row) : Type 0 where
   knows : first .known ≡ row .known
   reads : first .values ≡ row .values
 
-continues-before : (action : Action) (row : Row) (later : List Row) → Continues (rowAfter action row) later → Continues row (rowsLeft action row ++ later)
+continues-before : (action : Action) (row : Row) (later : List Row) → Continues (rowAfter action row) later → Continues row (rowsEnded action row ++ later)
 continues-before (Action.Wait n) row later c =
     record { first = c .first; rest = c .rest; is = c .is; longer = omega (arith, c .longer); knows = c .knows; reads = c .reads }
 continues-before (Action.Ewait event value) row later c = by (releases row event value) c
@@ -99,7 +99,9 @@ module _ (log : List Row) where
     ahead : drop (p .row) log ≡ rows
     used : suc (p .used) ≡ row .clocks
 
-  record Finished (row : Row) (rows : List Row) (t : Elapsed) : Type 0 where
+  -- an action is finished, one clock passed by for each row that it ends
+  record Finished (ended : List Row) (row : Row) (rows : List Row) (t : Elapsed) : Type 0 where
+    passed : t .searched ≡ length ended
     finished : t .finished ≡ true
     on : On (t .place) row rows
 
@@ -109,7 +111,7 @@ module _ (log : List Row) where
   -- the row releases it, or the next one does
   ewait-finishes : (event value : ℕ) (p : Place) (row : Row) (later : List Row) → canRelease event value ≡ true → (b : Bool) → releases row event value ≡ b
       → Continues (cond b row (eventRow event value)) later → On p row (cond b [] (row ∷ []) ++ later)
-      → Finished (cond b row (eventRow event value)) later (elapsed (Action.Ewait event value) p)
+      → Finished (cond b [] (row ∷ [])) (cond b row (eventRow event value)) later (elapsed (Action.Ewait event value) p)
   ewait-finishes event value p row later r true t c o =
       let d = first-at (p .row) log (c .first) (c .rest) (o .ahead ∙ c .is) in
       let there : hasReading (getD (knownOf log) (p .row) 0) (getD (valuesOf log) (p .row) 0) event value ≡ true
@@ -117,7 +119,7 @@ module _ (log : List Row) where
       let e : ewaitOf (logIn log) p event value ≡ Released.At (record { row = p .row; used = p .used }) 0
       = sym (in64-start (logIn log) event value p)
       ∙ in64-here (logIn log) event value (p .row) (p .used) 0 (lit< tt) (d .inside) there in
-      rw e (record { finished = refl; on = record { ahead = o .ahead; used = o .used } })
+      rw e (record { passed = refl; finished = refl; on = record { ahead = o .ahead; used = o .used } })
   ewait-finishes event value p row later r false t c o =
       let d = first-at (p .row) log row later (o .ahead) in
       let next : p .row + 1 ≡ suc (p .row) = omega arith in
@@ -130,21 +132,22 @@ module _ (log : List Row) where
       = sym (in64-start (logIn log) event value p)
       ∙ in64-next (logIn log) event value (p .row) (p .used) 0 (d .inside) not-here
       ∙ in64-here (logIn log) event value (p .row + 1) 0 passed (omega arith) (d′ .inside) there in
-      rw e (record { finished = refl; on = record { ahead = rw next (d .rest); used = refl } })
+      let one : passed ≡ 1 = omega (arith, d .lasts, o .used) in
+      rw e (record { passed = one; finished = refl; on = record { ahead = rw next (d .rest); used = refl } })
 
   -- any action judged fine
-  finishes : (action : Action) (p : Place) (row : Row) (later : List Row)
-      → ((event value : ℕ) → action ≡ Action.Ewait event value → canRelease event value ≡ true)
-      → Continues (rowAfter action row) later → On p row (rowsLeft action row ++ later) → Finished (rowAfter action row) later (elapsed action p)
+  finishes : (action : Action) (p : Place) (row : Row) (later : List Row) → Releasable action
+      → Continues (rowAfter action row) later → On p row (rowsEnded action row ++ later)
+      → Finished (rowsEnded action row) (rowAfter action row) later (elapsed action p)
   finishes (Action.Wait n) p row later f c o =
       let d = first-at (p .row) log (c .first) (c .rest) (o .ahead ∙ c .is) in
       rw (wait-in (clocksOf log) (p .row) (p .used) n (d .inside) (omega (arith, d .lasts, c .longer, o .used)))
-      (record { finished = refl; on = record { ahead = o .ahead; used = omega (arith, o .used) } })
+      (record { passed = refl; finished = refl; on = record { ahead = o .ahead; used = omega (arith, o .used) } })
   finishes (Action.Ewait event value) p row later f c o = ewait-finishes event value p row later (f event value refl) (releases row event value) refl c o
-  finishes (Action.Flag change flag) p row later f c o = record { finished = refl; on = o }
-  finishes (Action.Load part word) p row later f c o = record { finished = refl; on = o }
-  finishes (Action.Poke part word) p row later f c o = record { finished = refl; on = o }
-  finishes Action.Exit p row later f c o = record { finished = refl; on = o }
+  finishes (Action.Flag change flag) p row later f c o = record { passed = refl; finished = refl; on = o }
+  finishes (Action.Load part word) p row later f c o = record { passed = refl; finished = refl; on = o }
+  finishes (Action.Poke part word) p row later f c o = record { passed = refl; finished = refl; on = o }
+  finishes Action.Exit p row later f c o = record { passed = refl; finished = refl; on = o }
 
   -- in the last row one clock is left
   last-left : (p : Place) (row : Row) → On p row (row ∷ []) → leftOf (clocksOf log) p ≡ 1
@@ -164,25 +167,33 @@ witnessRows x w = rowsOver (actionsOf x w) firstRow
 abbrev pub witnessLog : (x : Script) {p : ℕ} {k : Knowledge} {q : ℕ} {l : Knowledge} → Walk x p k q l → Log
 witnessLog x w = logIn (witnessRows x w)
 
--- a run at the end of the walk, with one clock of the log left
-pub record Arrived (x : Script) (log : Log) (addr word q : ℕ) (l : Knowledge) (r : SlotRun) : Type 0 where
+-- a run at the end of the walk, with one clock of the log left, where ewaits passed by so many but for one
+pub record Arrived (x : Script) (log : Log) (addr word q : ℕ) (l : Knowledge) (passed : ℕ) (r : SlotRun) : Type 0 where
   pub agrees : Agree x addr word q l r
   pub one-left : leftOf (log .clocks) (r .place) ≡ 1
+  pub passed-by : suc (r .ewaits) ≡ passed
 
 module _ (x : Script) (log : List Row) where
   reach-on : {addr word p q : ℕ} {k l : Knowledge} {r : SlotRun} (w : Walk x p k q l) (row : Row) → Agree x addr word p k r
       → On log (r .place) row (rowsOver (actionsOf x w) row)
-      → Arrived x (logIn log) addr word q l (slotRunFor (sceneUnder x (logIn log)) (length (actionsOf x w)) r)
+      → Arrived x (logIn log) addr word q l (length (rowsOver (actionsOf x w) row) + r .ewaits)
+      (slotRunFor (sceneUnder x (logIn log)) (length (actionsOf x w)) r)
   unfolding slotRunFor performOf
-  reach-on {r = r} here row g o = record { agrees = g; one-left = last-left log (r .place) row o }
+  reach-on {r = r} here row g o = record { agrees = g; one-left = last-left log (r .place) row o; passed-by = omega arith }
   reach-on {r = r} (more action n e f w) row g o =
       let next = rowAfter action row in
       let t = finishes log action (r .place) row (rowsOver (actionsOf x w) next) (f .event) (continues (actionsOf x w) next) o in
-      let same = ap (λ (turn : Turn). turn .place) (performs x true (logIn log) (g .going) e) in
-      reach-on w next (goes-on x (logIn log) g e f (t .finished)) (rw same (t .on))
+      let does = performs x true (logIn log) (g .going) e in
+      let rest = reach-on w next (goes-on x (logIn log) g e f (t .finished)) (rw (ap (λ (turn : Turn). turn .place) does) (t .on)) in
+      let searched = ap (λ (turn : Turn). turn .searched) does in
+      let sum = length-append (rowsEnded action row) (rowsOver (actionsOf x w) next) in
+      record { agrees = rest .agrees; one-left = rest .one-left; passed-by = omega (arith, rest .passed-by, searched, t .passed, sum) }
 
 -- a start, under the log made for a walk from it, comes to where the walk ends
 pub reach : (x : Script) {entry q : ℕ} {l : Knowledge} (w : Walk x entry knowNothing q l) {addr word : ℕ} {slot : Slot} {flags : Flags}
     → Agree x addr word entry knowNothing (slotBegun slot flags)
-    → Arrived x (witnessLog x w) addr word q l (slotRunFor (sceneUnder x (witnessLog x w)) (length (actionsOf x w)) (slotBegun slot flags))
-reach x w g = reach-on x (witnessRows x w) w firstRow g (record { ahead = refl; used = refl })
+    → Arrived x (witnessLog x w) addr word q l (length (witnessRows x w))
+    (slotRunFor (sceneUnder x (witnessLog x w)) (length (actionsOf x w)) (slotBegun slot flags))
+reach x w g =
+    let a = reach-on x (witnessRows x w) w firstRow g (record { ahead = refl; used = refl }) in
+    record { agrees = a .agrees; one-left = a .one-left; passed-by = omega (arith, a .passed-by) }

@@ -1,5 +1,6 @@
 -- What the auditor says (01, "What the auditor says").
 use Prim.Native.Nat.{ℕ, zero, suc, _+_}
+use mathlib.Core.Path.{_≡_}
 use mathlib.Core.Bool.{Bool, true, false, cond, not, _&&_}
 use mathlib.Core.List.{List}
 use lib.Dec.{ltb, eqb}
@@ -50,6 +51,10 @@ judgePoke ranges (KnownAddress.At address) halves =
 -- events are 0 to 31, readings 0 or 1
 unfoldable pub canRelease : ℕ → ℕ → Bool
 canRelease event value = ltb event 32 && ltb value 2
+
+-- an ewait that some reading releases, or any other action
+abbrev pub Releasable : Action → Type 0
+Releasable action = (event value : ℕ) → action ≡ Action.Ewait event value → canRelease event value ≡ true
 
 -- what is said of an instruction, given what is known where it stands
 abbrev pub judgeOf : ℕ → List ℕ → Action → Knowledge → Judgement

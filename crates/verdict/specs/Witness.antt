@@ -7,7 +7,6 @@ use mathlib.Core.List.{List, [], _∷_, _++_}
 use lib.Dec.{eqb}
 use lib.ListN.{length}
 use Rattle.families.specs.Family.{codeSize}
-use Rattle.isa.specs.declared.instructions.Instruction.{Instruction}
 use Rattle.isa.specs.declared.reader.Decoded.{Decoded}
 use Rattle.refusals.specs.Number.{faultNumber}
 use Rattle.refusals.specs.declared.refusals.Fault.{Fault}
@@ -57,19 +56,19 @@ rowAfter (Action.Load part word) row = row
 rowAfter (Action.Poke part word) row = row
 rowAfter Action.Exit row = row
 
--- the rows that the action leaves behind: the present one, or none
-abbrev pub rowsLeft : Action → Row → List Row
-rowsLeft (Action.Wait n) row = []
-rowsLeft (Action.Ewait event value) row = cond (releases row event value) [] (row ∷ [])
-rowsLeft (Action.Flag change flag) row = []
-rowsLeft (Action.Load part word) row = []
-rowsLeft (Action.Poke part word) row = []
-rowsLeft Action.Exit row = []
+-- the rows that the action ends: the present one, or none
+abbrev pub rowsEnded : Action → Row → List Row
+rowsEnded (Action.Wait n) row = []
+rowsEnded (Action.Ewait event value) row = cond (releases row event value) [] (row ∷ [])
+rowsEnded (Action.Flag change flag) row = []
+rowsEnded (Action.Load part word) row = []
+rowsEnded (Action.Poke part word) row = []
+rowsEnded Action.Exit row = []
 
 -- the rows of a run through actions, the present one being so
 abbrev pub rowsOver : List Action → Row → List Row
 rowsOver [] row = row ∷ []
-rowsOver (action ∷ actions) row = rowsLeft action row ++ rowsOver actions (rowAfter action row)
+rowsOver (action ∷ actions) row = rowsEnded action row ++ rowsOver actions (rowAfter action row)
 
 -- its register writes
 abbrev pub writesOver : List Action → ℕ
@@ -110,22 +109,22 @@ module _ (family : ℕ) (code marks : List ℕ) (entry : ℕ) (ranges : List ℕ
   module _ (log : Log) (valid : validLog log ≡ true) (masks : MasksInType log) (steps : ℕ) where
     -- so many steps of a start under this log: the run, its next step's effect, and the run after that step
     module _ {name : SlotName} {s : State} (start : Start family code marks entry name s) where
-      abbrev pub run : Witness family code marks entry ranges
-      run = record { name = name; start = s; starts = start; log = log; valid = valid; masks = masks; steps = steps }
+      abbrev pub witnessFrom : Witness family code marks entry ranges
+      witnessFrom = record { name = name; start = s; starts = start; log = log; valid = valid; masks = masks; steps = steps }
 
       abbrev pub reached : Run
-      reached = runOf family code marks entry ranges run
+      reached = runOf family code marks entry ranges witnessFrom
 
       abbrev pub effect : Effect
-      effect = nextEffect family code marks entry ranges run
+      effect = nextEffect family code marks entry ranges witnessFrom
 
       abbrev pub after : Run
-      after = runAfter family code marks entry ranges run
+      after = runAfter family code marks entry ranges witnessFrom
 
     -- these two are starts, and write differently at the place
     abbrev pub Differ : ℕ → SlotName → State → State → Type 0
     Differ place name s s′ = (one : Start family code marks entry name s) × (two : Start family code marks entry name s′)
-        × (WriteDifferently family code marks entry ranges place (run one) (run two))
+        × (WriteDifferently family code marks entry ranges place (witnessFrom one) (witnessFrom two))
 
     -- what the next step of a start's run shows
     module _ {name : SlotName} {s : State} (start : Start family code marks entry name s) (place : ℕ) where
@@ -156,18 +155,21 @@ module _ (family : ℕ) (code marks : List ℕ) (entry : ℕ) (ranges : List ℕ
       Sees Fault.Input = ⊥
 
     -- the next step shows the verdict: of a pass it is exit's, with the reported numbers
-    abbrev pub Shows : {name : SlotName} {s : State} → Start family code marks entry name s → Verdict → Type 0
-    Shows {name} start (Verdict.Pass place count writes waitClocks) =
+    abbrev pub ShowsVerdict : {name : SlotName} {s : State} → Start family code marks entry name s → Verdict → Type 0
+    ShowsVerdict {name} start (Verdict.Pass place count writes waitClocks) =
         (suc steps ≡ count) × (Exact family code marks entry ranges name (place .0) count writes waitClocks (after start))
-    Shows start (Verdict.Fault fault place) = Sees start (place .0) fault
+    ShowsVerdict start (Verdict.Fault fault place) = Sees start (place .0) fault
 
     -- where the steps bring a start, with so many writes made
     pub record ShownFrom (writes : ℕ) (verdict : Verdict) {name : SlotName} {s : State} (start : Start family code marks entry name s) : Type 0 where
       pub there : AtPlace family code marks entry ranges name (placeOf verdict) (reached start)
+      -- each of them fetched an instruction: none is idle, and none is a stop at the place
+      pub counted : reached start .count ≡ steps
       pub wrote : length (reached start .writes) ≡ writes
-      -- the log is no longer than that takes
+      -- nothing of the log is idle: one clock is left, and ewaits passed by one of each earlier row
       pub one-left : leftOf (log .clocks) (reached start .place) ≡ 1
-      pub shows : Shows start verdict
+      pub passed-by : suc (reached start .ewaits) ≡ length (log .clocks)
+      pub shows : ShowsVerdict start verdict
 
   -- what a log and a number of steps show of a verdict, from every start, in whichever slot
   pub record ShownBy (log : Log) (steps writes : ℕ) (verdict : Verdict) : Type 0 where

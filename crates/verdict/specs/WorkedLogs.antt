@@ -1,5 +1,5 @@
--- The logs of worked scripts (docs/LIBRARY.md): a row for each event that is waited for, in order, and no other.
-use Prim.Native.Nat.{ℕ, _-_}
+-- The logs of worked scripts (docs/LIBRARY.md): a first row, and one for each ewait that the row before it does not release, in order.
+use Prim.Native.Nat.{ℕ, zero, suc, _-_}
 use mathlib.Core.Path.{_≡_}
 use mathlib.Core.List.{List, [], _∷_, _++_}
 use lib.ListN.{length, replicate}
@@ -7,7 +7,7 @@ use Rattle.families.specs.Family.{codeSize}
 use Rattle.log.specs.declared.row.Row.{Row}
 use Rattle.actions.specs.declared.actions.Action.{Action}
 use Rattle.verdict.specs.Starred.{verdictOn, everything}
-use Rattle.verdict.specs.Witness.{firstRow, rowsOver, writesOver, wayTo}
+use Rattle.verdict.specs.Witness.{firstRow, rowsOver, writesOver, wayTo, maxShown}
 
 -- what these bytes do before the verdict's place
 abbrev pub wayOn : ℕ → List ℕ → List Action
@@ -38,9 +38,16 @@ twice = 0x5f ∷ 0x03 ∷ 0x01 ∷ 0x5f ∷ 0x03 ∷ 0x01 ∷ 0x05 ∷ 0x7f ∷ 
 abbrev pub stuckAt : List ℕ
 stuckAt = 0x5f ∷ 0x01 ∷ 0x01 ∷ 0x5f ∷ 0x20 ∷ 0x01 ∷ 0x7f ∷ []
 
+-- ewait 1 1 and ewait 1 0, so many times one after the other
+abbrev pub alternating : ℕ → List ℕ
+alternating zero = 0x7f ∷ []
+alternating (suc n) = 0x5f ∷ 0x01 ∷ 0x01 ∷ 0x5f ∷ 0x01 ∷ 0x00 ∷ alternating n
+
 abbrev pub WorkedLogs : Type 0
 WorkedLogs = shownAs (wayOn 2 lowHalfAlone) (row 1 0 0 ∷ row 1 2 2 ∷ []) 2 0
     × shownAs (wayOn 2 reclock) (row 1 0 0 ∷ row 129 2 2 ∷ row 1 2 0 ∷ row 257 4 4 ∷ []) 9 1
     × shownAs (wayOn 2 twice) (row 1 0 0 ∷ row 129 8 8 ∷ []) 3 0
     × shownAs (wayOn 2 stuckAt) (row 1 0 0 ∷ row 1 2 2 ∷ []) 1 0
     × shownAs (wayOn 1 (0x05 ∷ 0x40 ∷ [])) (row 129 0 0 ∷ []) 1 0
+    -- no fewer rows than may be asked for: some log has them all
+    × (length (rowsOver (wayOn 4 (alternating 85)) firstRow) ≡ maxShown)

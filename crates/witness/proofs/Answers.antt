@@ -92,16 +92,16 @@ module _ (family : ℕ) (code marks : List ℕ) (entry : ℕ) (ranges : List ℕ
       shown = subst (Witnessed family code marks entry ranges) (a .answered) (a .witnessed) i
 
       -- so its rows are few
-      pub rows-fit : made .rows + 1 ≤ maxShown
+      pub rows-fit : made .before + 1 ≤ maxShown
       rows-fit = omega (arith, f .counted, length-map (rows family code marks entry ranges lent) (λ (row : Row). row .clocks), shown .few)
 
       pub answers : Witnesses family code marks entry ranges lent new
-          (WitnessAnswer.Shown (record { verdict = v; rows = made .rows + 1; steps = made .steps; writes = made .writes }))
+          (WitnessAnswer.Shown (record { verdict = v; rows = made .before + 1; steps = made .steps; writes = made .writes }))
       unfolding witnessOf witnessRefusal
       answers = let r = has-room lent long in record {
         answered = rw (a .answered, f .counted, f .stepped, f .wrote, i, r) refl;
         numbered = rw (i, r) refl;
         columns = f .put;
-        shows = rw (a .answered, f .counted, f .stepped, f .wrote, f .put, rows-first lent (rows family code marks entry ranges lent)) shown;
+        shows = (a, rw (a .answered, f .counted, f .stepped, f .wrote, f .put, rows-first lent (rows family code marks entry ranges lent)) shown);
         worked = worked-logs;
       }

@@ -25,17 +25,17 @@ use Rattle.actions.proofs.Variants.{none}
 use Rattle.actions.proofs.actions.Action.{the-type as action-type}
 use Rattle.script.specs.Input.{scriptFits, rangesFit, inputFits}
 use Rattle.script.proofs.Scripts.{Script, fits-script, fetchAt, Reads}
-use Rattle.verdict.specs.Auditor.{waitLength, knowNext, knowNothing, auditOf}
-use Rattle.verdict.specs.Witness.{firstRow, eventRow, releases, rowAfter, rowsLeft, rowsOver, writesOver, placeOf, maxShown}
+use Rattle.verdict.specs.Auditor.{Releasable, waitLength, knowNext, knowNothing, auditOf}
+use Rattle.verdict.specs.Witness.{firstRow, eventRow, releases, rowAfter, rowsEnded, rowsOver, writesOver, placeOf, maxShown}
 use Rattle.verdict.specs.declared.verdicts.Knowledge.{Knowledge}
 use Rattle.audit.proofs.Turns.{poke-small}
 use Rattle.verdict.proofs.Cases.{never}
 use Rattle.verdict.proofs.Judging.{Fine}
 use Rattle.verdict.proofs.Walk.{Walk, here, more, actionsOf, walk-forward, way-is}
 use Rattle.verdict.proofs.Claim.{audit-walked}
-use Rattle.verdict.proofs.WitnessLog.{Bounded, bounded-next, bounded-start, wait-short, Made, made-first, made-after, reads-size}
+use Rattle.verdict.proofs.WitnessLog.{Bounded, bounded-next, bounded-start, wait-short, RowFits, first-fits, row-fits-after, reads-size}
 use Rattle.witness.specs.Witnesses.{way}
-use Rattle.witness.specs.Inside.{Releasable, withRow, nothingMade, madeAfter, Extends, Follows}
+use Rattle.witness.specs.Inside.{withRow, nothingMade, madeAfter, Extends, Follows}
 use Rattle.witness.specs.declared.rows.Timeline.{Timeline}
 
 -- ---- one instruction
@@ -43,28 +43,28 @@ use Rattle.witness.specs.declared.rows.Timeline.{Timeline}
 module _ (made : Timeline) (old : Log) where
   -- one step more, in this row, with so many rows before it
   abbrev pub stepped : Row → ℕ → ℕ → Timeline
-  stepped row rows writes = record { row = row; rows = rows; steps = made .steps + 1; writes = writes }
+  stepped row before writes = record { row = row; before = before; steps = made .steps + 1; writes = writes }
 
   pub extends-wait : (action : Action) (n : ℕ) → action ≡ Action.Wait n
       → Extends action made old old
-      (stepped (record { clocks = made .row .clocks + n; known = made .row .known; values = made .row .values }) (made .rows) (made .writes))
+      (stepped (record { clocks = made .row .clocks + n; known = made .row .known; values = made .row .values }) (made .before) (made .writes))
   extends-wait action n e = rw e (record { made-is = simp add-zero; put = refl })
 
   pub extends-released : (action : Action) (event value : ℕ) → action ≡ Action.Ewait event value → releases (made .row) event value ≡ true
-      → Extends action made old old (stepped (made .row) (made .rows) (made .writes))
+      → Extends action made old old (stepped (made .row) (made .before) (made .writes))
   extends-released action event value e t = rw e (record { made-is = simp (t, add-zero); put = rw t refl })
 
   pub extends-begun : (action : Action) (event value : ℕ) → action ≡ Action.Ewait event value → releases (made .row) event value ≡ false
-      → {row : Row} {new : Log} → row ≡ eventRow event value → new ≡ withRow old (made .rows) (made .row)
-      → Extends action made old new (stepped row (made .rows + 1) (made .writes))
+      → {row : Row} {new : Log} → row ≡ eventRow event value → new ≡ withRow old (made .before) (made .row)
+      → Extends action made old new (stepped row (made .before + 1) (made .writes))
   extends-begun action event value e t r p = rw (e, r) (record { made-is = simp (t, add-zero); put = p ∙ rw t refl })
 
   pub extends-poke : (action : Action) (part : Part) (word : ℕ) → action ≡ Action.Poke part word
-      → Extends action made old old (stepped (made .row) (made .rows) (made .writes + 1))
+      → Extends action made old old (stepped (made .row) (made .before) (made .writes + 1))
   extends-poke action part word e = rw e (record { made-is = simp add-zero; put = refl })
 
   pub extends-other : (action : Action) → OneOf (2 ∷ 3 ∷ 5 ∷ []) (tagOf action-type action)
-      → Extends action made old old (stepped (made .row) (made .rows) (made .writes))
+      → Extends action made old old (stepped (made .row) (made .before) (made .writes))
   extends-other (Action.Wait n) h = none (2 ∷ 3 ∷ 5 ∷ []) 0 tt h
   extends-other (Action.Ewait event value) h = none (2 ∷ 3 ∷ 5 ∷ []) 1 tt h
   extends-other (Action.Flag change flag) h = record { made-is = simp add-zero; put = refl }
@@ -114,13 +114,13 @@ pub record Making (x : Script) (place : ℕ) (way : List Action) (lent log : Log
   pub same-rows : before ++ rowsOver (actionsOf x walk) (made .row) ≡ rowsOver way firstRow
   pub same-steps : made .steps + length (actionsOf x walk) ≡ length way
   pub same-writes : made .writes + writesOver (actionsOf x walk) ≡ writesOver way
-  pub counted : made .rows ≡ length before
+  pub counted : made .before ≡ length before
   pub three-bytes : 3 * length before ≤ at
   pub low : at ≤ 512
   pub few-steps : made .steps ≤ at
   pub few-writes : made .writes ≤ made .steps
   pub bounded : Bounded at knows
-  pub made-so : Made (knows .clocks) (made .row)
+  pub row-fits : RowFits (knows .clocks) (made .row)
   pub put : log ≡ rowsInto lent before
 
 pub making-first : {x : Script} {place entry : ℕ} {l : Knowledge} (w : Walk x entry knowNothing place l) (lent : Log) → entry ≤ 511
@@ -139,7 +139,7 @@ making-first {l = l} w lent h = record {
   few-steps = omega arith;
   few-writes = omega arith;
   bounded = bounded-start;
-  made-so = made-first;
+  row-fits = first-fits;
   put = refl;
 }
 
@@ -163,17 +163,17 @@ module _ {x : Script} {place : ℕ} {all : List Action} {lent log : Log} {at : �
   same-lengths = subst (SameLengths lent) (sym (g .put)) (rows-lengths lent (g .before) (less-room room (omega (arith, few))))
 
   -- the next row has a place in each column
-  pub place-left : (made .rows < length (log .clocks)) × (made .rows < length (log .known)) × (made .rows < length (log .values))
+  pub place-left : (made .before < length (log .clocks)) × (made .before < length (log .known)) × (made .before < length (log .values))
   place-left =
       let s = same-lengths in
-      let small : made .rows ≤ 170 = omega (arith, few, g .counted) in
+      let small : made .before ≤ 170 = omega (arith, few, g .counted) in
       (omega (arith, small, s .clocks, room .clocks), omega (arith, small, s .known, room .known), omega (arith, small, s .values, room .values))
 
-  put-after : (rows : List Row) → length (g .before) + length rows ≤ maxShown → withRowsAt log (made .rows) rows ≡ rowsInto lent (g .before ++ rows)
+  put-after : (rows : List Row) → length (g .before) + length rows ≤ maxShown → withRowsAt log (made .before) rows ≡ rowsInto lent (g .before ++ rows)
   put-after rows h = ap₂ (λ (l : Log) (n : ℕ). withRowsAt l n rows) (g .put) (g .counted) ∙ rows-more lent (g .before) rows (less-room room h)
 
   -- at the place the present row is the last
-  last-put : at ≡ place → {new : Log} → new ≡ withRow log (made .rows) (made .row) → Follows all lent new made
+  last-put : at ≡ place → {new : Log} → new ≡ withRow log (made .before) (made .row) → Follows all lent new made
   last-put same {new} p =
       let none-left = over x (g .walk) same in
       let rows-are : g .before ++ (made .row ∷ []) ≡ rowsOver all firstRow
@@ -185,9 +185,9 @@ module _ {x : Script} {place : ℕ} {all : List Action} {lent log : Log} {at : �
         put = p ∙ put-after (made .row ∷ []) (omega (arith, few)) ∙ ap (rowsInto lent) rows-are;
       }
 
-  pub making-over : at ≡ place → {new : Log} {last : Timeline} → last ≡ made → new ≡ withRow log (last .rows) (last .row) → Follows all lent new last
+  pub making-over : at ≡ place → {new : Log} {last : Timeline} → last ≡ made → new ≡ withRow log (last .before) (last .row) → Follows all lent new last
   making-over same {new} {last} e p =
-      subst (Follows all lent new) (sym e) (last-put same (p ∙ ap (λ (t : Timeline). withRow log (t .rows) (t .row)) e))
+      subst (Follows all lent new) (sym e) (last-put same (p ∙ ap (λ (t : Timeline). withRow log (t .before) (t .row)) e))
 
   pub lengths-over : {new : Log} (n : ℕ) (row : Row) → new ≡ withRow log n row → SameLengths lent new
   lengths-over n row p =
@@ -209,19 +209,19 @@ module _ {x : Script} {place : ℕ} {all : List Action} {lent log : Log} {at : �
     pub inside : (0 < n) × (at + n ≤ 512)
     inside = let e = step .reads in (e .some, omega (arith, e .inside, size-small (x .family)))
 
-    pub counts-fit : (made .rows < 1024) × (made .steps < 1024) × (made .writes < 1024) × (made .row .clocks + waitLength action < 2 ^ 64) × (Releasable action)
+    pub counts-fit : (made .before < 1024) × (made .steps < 1024) × (made .writes < 1024) × (made .row .clocks + waitLength action < 2 ^ 64) × (Releasable action)
     counts-fit =
         let short = wait-short action (step .reads .formed) in (
           omega (arith, few, g .counted),
           omega (arith, g .few-steps, g .low),
           omega (arith, g .few-writes, g .few-steps, g .low),
-          omega (arith, g .made-so .most, g .bounded .clocks, g .bounded .count, g .low, short),
+          omega (arith, g .row-fits .most, g .bounded .clocks, g .bounded .count, g .low, short),
           step .fine .event,
         )
 
-    making-on : {new : Log} → new ≡ withRowsAt log (made .rows) (rowsLeft action (made .row)) → Making x place all lent new (at + n) (madeAfter action made)
+    making-on : {new : Log} → new ≡ withRowsAt log (made .before) (rowsEnded action (made .row)) → Making x place all lent new (at + n) (madeAfter action made)
     making-on p =
-        let left = rowsLeft action (made .row) in
+        let left = rowsEnded action (made .row) in
         let later = rowsOver (actionsOf x (step .rest)) (rowAfter action (made .row)) in
         let size = reads-size x (step .reads) (made .row) in
         let here : rowsOver (actionsOf x (g .walk)) (made .row) ≡ left ++ later = ap (λ (actions : List Action). rowsOver actions (made .row)) (step .is) in
@@ -240,7 +240,7 @@ module _ {x : Script} {place : ℕ} {all : List Action} {lent log : Log} {at : �
           few-steps = omega (arith, g .few-steps, inside .0);
           few-writes = omega (arith, g .few-writes, poke-small action);
           bounded = bounded-next action (step .reads .formed) (step .reads .some) (g .bounded);
-          made-so = made-after action (made .row) (g .knows .clocks) (step .fine .event) (g .made-so);
+          row-fits = row-fits-after action (made .row) (g .knows .clocks) (step .fine .event) (g .row-fits);
           put = p ∙ put-after left (omega (arith, g .three-bytes, size, inside .1));
         }
 
@@ -249,4 +249,4 @@ module _ {x : Script} {place : ℕ} {all : List Action} {lent log : Log} {at : �
     making-next {new} {did} {made′} same e =
         let becomes : made′ ≡ madeAfter action made = e .made-is ∙ ap (λ (a : Action). madeAfter a made) same in
         subst (Making x place all lent new (at + n)) (sym becomes)
-        (making-on (e .put ∙ ap (λ (a : Action). withRowsAt log (made .rows) (rowsLeft a (made .row))) same))
+        (making-on (e .put ∙ ap (λ (a : Action). withRowsAt log (made .before) (rowsEnded a (made .row))) same))

@@ -1,20 +1,15 @@
 -- The log as far as it is made. Private functions cite it; no public contract does.
 use Prim.Native.Nat.{ℕ, _+_}
 use mathlib.Core.Path.{_≡_}
-use mathlib.Core.Bool.{true}
 use mathlib.Core.List.{List}
 use lib.ListN.{length, set}
 use Rattle.log.specs.Log.{Log, logOf}
 use Rattle.log.specs.Rows.{rowsInto, withRowsAt}
 use Rattle.log.specs.declared.row.Row.{Row}
 use Rattle.actions.specs.declared.actions.Action.{Action}
-use Rattle.verdict.specs.Auditor.{canRelease, pokeCount}
-use Rattle.verdict.specs.Witness.{firstRow, rowAfter, rowsLeft, rowsOver, writesOver}
+use Rattle.verdict.specs.Auditor.{pokeCount}
+use Rattle.verdict.specs.Witness.{firstRow, rowAfter, rowsEnded, rowsOver, writesOver}
 use Rattle.witness.specs.declared.rows.Timeline.{Timeline}
-
--- an ewait that some reading releases, or any other action
-abbrev pub Releasable : Action → Type 0
-Releasable action = (event value : ℕ) → action ≡ Action.Ewait event value → canRelease event value ≡ true
 
 -- columns with a row put at a place
 abbrev pub withRow : Log → ℕ → Row → Log
@@ -22,24 +17,24 @@ withRow old at row = logOf (set (old .clocks) at (row .clocks)) (set (old .known
 
 -- at the entry
 abbrev pub nothingMade : Timeline
-nothingMade = record { row = firstRow; rows = 0; steps = 0; writes = 0 }
+nothingMade = record { row = firstRow; before = 0; steps = 0; writes = 0 }
 
 -- one action more
 abbrev pub madeAfter : Action → Timeline → Timeline
 madeAfter action made = record {
   row = rowAfter action (made .row);
-  rows = made .rows + length (rowsLeft action (made .row));
+  before = made .before + length (rowsEnded action (made .row));
   steps = made .steps + 1;
   writes = made .writes + pokeCount action;
 }
 
 pub record Extends (action : Action) (made : Timeline) (old new : Log) (answer : Timeline) : Type 0 where
   pub made-is : answer ≡ madeAfter action made
-  pub put : new ≡ withRowsAt old (made .rows) (rowsLeft action (made .row))
+  pub put : new ≡ withRowsAt old (made .before) (rowsEnded action (made .row))
 
--- the loop's end: the rows that a way asks for stand in the lent columns, the last one not yet counted
+-- the loop's end: the rows that a way asks for stand in the lent columns, the last one not counted among those before it
 pub record Follows (way : List Action) (lent new : Log) (last : Timeline) : Type 0 where
-  pub counted : last .rows + 1 ≡ length (rowsOver way firstRow)
+  pub counted : last .before + 1 ≡ length (rowsOver way firstRow)
   pub stepped : last .steps ≡ length way
   pub wrote : last .writes ≡ writesOver way
   pub put : new ≡ rowsInto lent (rowsOver way firstRow)

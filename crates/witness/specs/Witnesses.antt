@@ -15,6 +15,7 @@ use Rattle.script.specs.Input.{inputFits}
 use Rattle.verdict.specs.Auditor.{auditOf}
 use Rattle.verdict.specs.Witness.{firstRow, rowsOver, writesOver, maxShown, wayTo, ShownBy}
 use Rattle.verdict.specs.WorkedLogs.{WorkedLogs}
+use Rattle.audit.specs.Promises.{Audits}
 use Rattle.witness.specs.declared.showing.Shown.{Shown}
 use Rattle.witness.specs.declared.showing.WitnessAnswer.{WitnessAnswer}
 
@@ -33,19 +34,21 @@ way family code marks entry ranges = wayTo family code marks entry ranges (audit
 
 -- a script with ranges, and the columns that are lent
 module _ (family : ℕ) (code marks : List ℕ) (entry : ℕ) (ranges : List ℕ) (lent : Log) where
-  abbrev done : List Action
-  done = way family code marks entry ranges
-
-  -- the rows that it asks for
+  -- the rows that its way asks for
   abbrev pub rows : List Row
-  rows = rowsOver done firstRow
+  rows = rowsOver (way family code marks entry ranges) firstRow
 
   -- no script with ranges, fewer than 171 entries lent in a column: tested in this order; then the verdict and the numbers of its log
   unfoldable pub witnessOf : WitnessAnswer
   witnessOf =
       cond (inputFits family code marks entry ranges)
       (cond (hasRoom lent)
-      (WitnessAnswer.Shown (record { verdict = auditOf family code marks entry ranges; rows = length rows; steps = length done; writes = writesOver done }))
+      (WitnessAnswer.Shown (record {
+        verdict = auditOf family code marks entry ranges;
+        rows = length rows;
+        steps = length (way family code marks entry ranges);
+        writes = writesOver (way family code marks entry ranges);
+      }))
       (WitnessAnswer.Refused Unshowable.Room))
       (WitnessAnswer.Refused Unshowable.Input)
 
@@ -61,9 +64,10 @@ module _ (family : ℕ) (code marks : List ℕ) (entry : ℕ) (ranges : List ℕ
   lentAfter (WitnessAnswer.Shown told) = rowsInto lent rows
   lentAfter (WitnessAnswer.Refused why) = lent
 
-  -- the first entries of the columns show what is told, from every start
+  -- of the verdict all holds that the auditor promises, and the first entries of the columns show it, from every start
   abbrev pub ShowsIt : Log → WitnessAnswer → Type 0
-  ShowsIt new (WitnessAnswer.Shown told) = ShownBy family code marks entry ranges (firstRows (told .rows) new) (told .steps) (told .writes) (told .verdict)
+  ShowsIt new (WitnessAnswer.Shown told) = (Audits family code marks entry ranges (told .verdict))
+      × (ShownBy family code marks entry ranges (firstRows (told .rows) new) (told .steps) (told .writes) (told .verdict))
   ShowsIt new (WitnessAnswer.Refused why) = Unit {0}
 
   -- what it promises of its answer and of the columns, lent and new

@@ -4,22 +4,22 @@ ghost use mathlib.Core.Bool.{true};
 ghost use Prim.Native.Nat.{_+_, _^_, _<_};
 ghost use lib.ListN.{length};
 ghost use Rattle.log.specs.Log.{logOf};
-ghost use Rattle.verdict.specs.Auditor.{canRelease, waitLength};
-ghost use Rattle.verdict.specs.Witness.{firstRow, eventRow};
-ghost use Rattle.witness.specs.Inside.{Releasable, withRow, nothingMade, Extends};
+ghost use Rattle.verdict.specs.Auditor.{Releasable, canRelease, waitLength};
+ghost use Rattle.verdict.specs.Witness.{eventRow};
+ghost use Rattle.witness.specs.Inside.{withRow, nothingMade, Extends};
 use actions::Action;
 use log::Row;
 
-// The log as far as it is made: the present row, how many stand before it, and the steps and writes up to here.
+// The log as far as it is made: the present row, how many rows stand before it, and the steps and writes up to here.
 pub struct Timeline {
     pub row: Row,
-    pub rows: usize,
+    pub before: usize,
     pub steps: usize,
     pub writes: usize,
 }
 
 // At the entry: one clock, and no event has a reading.
-pub fn begin() -> Timeline
+pub(crate) fn begin() -> Timeline
     ensures { λ r. ⌜ r ≡ nothingMade ⌝ }
 {
     let row = Row {
@@ -29,7 +29,7 @@ pub fn begin() -> Timeline
     };
     Timeline {
         row,
-        rows: 0,
+        before: 0,
         steps: 0,
         writes: 0,
     }
@@ -73,13 +73,13 @@ pub(crate) fn extend(
     known: &mut [u32],
     values: &mut [u32],
 ) -> Timeline
-    requires { ⌜ (made .rows < length (now clocks)) × (made .rows < length (now known)) × (made .rows < length (now values))
-        × (made .rows < 1024) × (made .steps < 1024) × (made .writes < 1024) × (made .row .clocks + waitLength action < 2 ^ 64) × (Releasable action) ⌝ }
+    requires { ⌜ (made .before < length (now clocks)) × (made .before < length (now known)) × (made .before < length (now values))
+        × (made .before < 1024) × (made .steps < 1024) × (made .writes < 1024) × (made .row .clocks + waitLength action < 2 ^ 64) × (Releasable action) ⌝ }
     ensures { λ r. ⌜ Extends action made (logOf (now (clocks .entry)) (now (known .entry)) (now (values .entry)))
         (logOf (now (clocks .exit)) (now (known .exit)) (now (values .exit))) r ⌝ }
 {
     let row = made.row;
-    let rows = made.rows;
+    let before = made.before;
     let steps = made.steps + 1;
     let writes = made.writes;
     match action {
@@ -91,37 +91,38 @@ pub(crate) fn extend(
             };
             Timeline {
                 row: longer,
-                rows,
+                before,
                 steps,
                 writes,
             }
         }
         Action::Ewait(event, value) => {
             if ewaits::has_reading(row.known, row.values, event, value) {
-                return Timeline {
+                Timeline {
                     row,
-                    rows,
+                    before,
                     steps,
                     writes,
-                };
-            }
-            put_row(row, rows, clocks, known, values);
-            Timeline {
-                row: event_row(event, value),
-                rows: rows + 1,
-                steps,
-                writes,
+                }
+            } else {
+                put_row(row, before, clocks, known, values);
+                Timeline {
+                    row: event_row(event, value),
+                    before: before + 1,
+                    steps,
+                    writes,
+                }
             }
         }
         Action::Poke(_, _) => Timeline {
             row,
-            rows,
+            before,
             steps,
             writes: writes + 1,
         },
         _ => Timeline {
             row,
-            rows,
+            before,
             steps,
             writes,
         },

@@ -71,7 +71,7 @@ pub fn witness<'a>(
     );
     WitnessAnswer::Shown(Shown {
         verdict,
-        rows: made.rows + 1,
+        rows: made.before + 1,
         steps: made.steps,
         writes: made.writes,
     })
@@ -83,7 +83,10 @@ fn is_input(verdict: Verdict) -> bool
 {
     match verdict {
         Verdict::Pass { .. } => false,
-        Verdict::Fault(fault, _) => refusals::fault_number(fault) == 9,
+        Verdict::Fault(fault, _) => match fault {
+            Fault::Input => true,
+            _ => false,
+        },
     }
 }
 
@@ -129,6 +132,6 @@ fn follow<'a>(
         at += length;
     };
     let row = last.row;
-    put_row(row, last.rows, clocks, known, values);
+    put_row(row, last.before, clocks, known, values);
     last
 }

@@ -1,11 +1,9 @@
 //! The auditor, called with slices that fit and with ones that don't.
 
+use crate::audited::Audited;
 use crate::outcomes::Group;
 use crate::part::{Part, Tally};
-use crate::ram::Ram;
 use crate::random::Random;
-use crate::ranges;
-use crate::show;
 use crate::shrink::Shrinker;
 use compare::{inputs, mirror};
 use hwsq::Verdict;
@@ -18,15 +16,8 @@ pub struct Audits {
     pub audits: u64,
 }
 
-/// A script and the words of the ranges.
-#[derive(Clone)]
-pub struct Case {
-    ram: Ram,
-    ranges: Vec<u32>,
-}
-
 /// Both verdicts, the proved one first.
-fn verdicts(case: &Case) -> (Verdict, Verdict) {
+fn verdicts(case: &Audited) -> (Verdict, Verdict) {
     let (code, marks) = case.ram.slices();
     let script = case.ram.lent(&code, &marks);
     let proved = hwsq::audit(script, &case.ranges);
@@ -34,30 +25,13 @@ fn verdicts(case: &Case) -> (Verdict, Verdict) {
     (proved, mirror::verdict(second))
 }
 
-fn differs(case: &Case) -> bool {
+fn differs(case: &Audited) -> bool {
     let (proved, second) = verdicts(case);
     proved != second
 }
 
-/// A script with the ranges it was made for, at times too many, odd in number or out of order.
-fn made(random: &mut Random) -> Case {
-    let list = ranges::random(random);
-    let ram = Ram::random(random, &list);
-    let mut words = ranges::flat(&list);
-    match random.below(30) {
-        0 => words.resize(128, 0xffff_ffff),
-        1 => words.resize(130, 0xffff_ffff),
-        2 => words.push(0),
-        3 => drop(words.pop()),
-        4 => words.reverse(),
-        5 => words.resize(129, 0xffff_ffff),
-        _ => {}
-    }
-    Case { ram, ranges: words }
-}
-
 impl Part for Audits {
-    type Case = Case;
+    type Case = Audited;
 
     fn name(&self) -> &'static str {
         "audits"
@@ -71,27 +45,25 @@ impl Part for Audits {
         self.audits
     }
 
-    fn compare(&self, unit: u64, tally: &mut Tally) -> Option<Case> {
-        let case = made(&mut Random::of_case(self.seed, SALT, unit));
+    fn compare(&self, unit: u64, tally: &mut Tally) -> Option<Audited> {
+        let case = Audited::random(&mut Random::of_case(self.seed, SALT, unit));
         let (proved, second) = verdicts(&case);
         tally.cases += 1;
         tally.count(Group::Audit, proved.verdict);
         (proved != second).then_some(case)
     }
 
-    fn shrunk(&self, mut case: Case) -> Case {
+    fn shrunk(&self, mut case: Audited) -> Audited {
         let shrinker = Shrinker::start();
-        Ram::shrink(&shrinker, &mut case, |case| &mut case.ram, differs);
-        shrinker.drop_items(&mut case, |case| &mut case.ranges, differs);
+        Audited::shrink(&shrinker, &mut case, |case| case, differs);
         case
     }
 
-    fn input(&self, case: &Case) -> String {
-        let (ram, ranges) = (case.ram.told(), show::words(&case.ranges));
-        format!("audit {ram} ranges {ranges}")
+    fn input(&self, case: &Audited) -> String {
+        format!("audit {}", case.told())
     }
 
-    fn answers(&self, case: &Case) -> String {
+    fn answers(&self, case: &Audited) -> String {
         let (proved, second) = verdicts(case);
         format!("  proved {proved:?}\n  second {second:?}")
     }

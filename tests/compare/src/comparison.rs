@@ -1,6 +1,6 @@
 //! The comparison itself: every part, its counts, and any difference.
 
-use crate::options::{Amounts, FULL};
+use crate::options::Amounts;
 use crate::part::{self, Part};
 use crate::parts::{self, Visitor};
 use crate::programs::Programs;
@@ -40,8 +40,7 @@ impl Visitor for Summary {
             );
             return;
         }
-        // Fewer jobs or pairs than the gate has can't be held to hundreds of each outcome.
-        let full = self.amounts.jobs >= FULL.jobs && self.amounts.pairs >= FULL.pairs;
+        let full = self.amounts.are_full();
         for fault in run.tally.outcomes.faults(part.groups(), full) {
             self.faults += 1;
             println!("OUTCOME in {}: {fault}", part.name());

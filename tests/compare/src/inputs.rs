@@ -4,6 +4,7 @@ use hwsq::{Log, Script, Start};
 use second::audit::{self, Registers};
 use second::isa::{CodeAddress, MmioAddress};
 use second::log::Columns;
+use second::witness::Lent;
 
 /// The script; entry points are below 2^32, as the second program's code addresses are.
 pub fn script(script: Script) -> audit::Script {
@@ -28,6 +29,15 @@ pub fn registers(start: Start) -> Registers {
         flags_0: start.flags_0,
         flags_1: start.flags_1,
         hwsq_enable: start.enable,
+    }
+}
+
+/// Columns that are lent for a log.
+pub fn lent(columns: hwsq::Columns) -> Lent {
+    Lent {
+        clocks: columns.clocks,
+        known: columns.known,
+        values: columns.values,
     }
 }
 

@@ -51,6 +51,7 @@ pub struct Log {
 }
 
 /// The three columns as the calls take them.
+#[derive(Clone, Debug, PartialEq)]
 pub struct Columns {
     pub clocks: Vec<u64>,
     pub known: Vec<u32>,
@@ -182,6 +183,24 @@ impl Columns {
             show::words(&self.known),
             show::words(&self.values)
         )
+    }
+
+    /// The first so many entries of each, or all.
+    pub fn first(&self, count: usize) -> Columns {
+        let mut first = self.clone();
+        first.clocks.truncate(count);
+        first.known.truncate(count);
+        first.values.truncate(count);
+        first
+    }
+
+    /// The columns as they are lent for a log.
+    pub fn lend(&mut self) -> hwsq::Columns<'_> {
+        hwsq::Columns {
+            clocks: &mut self.clocks,
+            known: &mut self.known,
+            values: &mut self.values,
+        }
     }
 
     pub fn lent(&self) -> hwsq::Log<'_> {

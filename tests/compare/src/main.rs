@@ -1,5 +1,6 @@
 //! Compares the proved library with the second program, in process and as programs.
 
+mod audited;
 mod audits;
 mod codec;
 mod comparison;
@@ -26,6 +27,7 @@ mod steps;
 #[cfg(feature = "misreadings")]
 mod trial;
 mod upload;
+mod witnesses;
 
 use options::Amounts;
 use std::process::ExitCode;

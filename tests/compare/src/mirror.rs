@@ -1,10 +1,11 @@
 //! The second program's answers in the shape of the proved ones, so that they compare member by member.
 
-use hwsq::{Access, Decoded, Encoded, Reading, Replayed, Slot, State, Stepped, Verdict};
+use hwsq::{Access, Decoded, Encoded, Reading, Replayed, Shown, Slot, State, Stepped, Verdict};
 use second::audit::{self, Ending, Fault, Pass};
 use second::isa::Instruction;
 use second::log::Place;
 use second::machine::{self, Activity, Did, SlotState, Step, Stop};
+use second::witness::Witness;
 use second::Refusal;
 
 /// Kind and operands of an instruction, as include/hwsq.h numbers them.
@@ -65,6 +66,52 @@ pub fn verdict(answer: Result<Pass, Fault>) -> Verdict {
             writes: 0,
             clocks: 0,
         },
+    }
+}
+
+const UNSHOWN: Shown = Shown {
+    refusal: 0,
+    verdict: 0,
+    addr: 0,
+    data: 0,
+    place: 0,
+    count: 0,
+    clocks: 0,
+    rows: 0,
+    steps: 0,
+    writes: 0,
+};
+
+/// A witness; the second program leaves it to the verdict what ADDR and DATA the second start has.
+pub fn shown(answer: Result<Witness, Refusal>) -> Shown {
+    let refusal = number(&answer);
+    let Ok(told) = answer else {
+        // There is no verdict, and 0 would be a pass.
+        return Shown {
+            refusal,
+            verdict: refusal,
+            ..UNSHOWN
+        };
+    };
+    let Verdict {
+        verdict,
+        place,
+        count,
+        clocks,
+        ..
+    } = verdict(told.verdict);
+    let half = |wanted| if verdict == wanted { 0x1_0000 } else { 0 };
+    Shown {
+        refusal,
+        verdict,
+        addr: half(4),
+        data: half(5),
+        place,
+        count,
+        clocks,
+        rows: told.rows,
+        steps: told.steps as usize,
+        writes: told.writes as usize,
     }
 }
 

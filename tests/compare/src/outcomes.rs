@@ -28,6 +28,9 @@ pub enum Group {
     Ending,
     MoreLog,
     Change,
+    Witness,
+    Shown,
+    LogRows,
     NormalGate,
     InvertedGate,
     DeadGate,
@@ -83,8 +86,8 @@ const VERDICTS: &[(u8, &str)] = &[
     (8, "8"),
     (9, "9"),
 ];
-/// Families 2 to 4 have all of these; 9 can't come out of a job, whose parser refuses its causes.
-const JOB_VERDICTS: &[(u8, &str)] = VERDICTS.split_at(9).0;
+/// Families 2 to 4 have all of these; the causes of 9 are refused by a job's parser, and by a witness.
+const SCRIPT_VERDICTS: &[(u8, &str)] = VERDICTS.split_at(9).0;
 const JOB_REFUSALS: &[(u8, &str)] = &[
     (20, "20"),
     (21, "21"),
@@ -165,15 +168,15 @@ const EXPECTED: &[Expected] = &[
         ],
     ),
     often(Group::JobRefusal, "refused", JOB_REFUSALS),
-    often(Group::JobVerdict, "verdict", JOB_VERDICTS),
+    often(Group::JobVerdict, "verdict", SCRIPT_VERDICTS),
     once(
         Group::Verdict1,
         "on family 1",
         &[(0, "0"), (1, "1"), (2, "2"), (3, "3")],
     ),
-    once(Group::Verdict2, "on family 2", JOB_VERDICTS),
-    once(Group::Verdict3, "on family 3", JOB_VERDICTS),
-    once(Group::Verdict4, "on family 4", JOB_VERDICTS),
+    once(Group::Verdict2, "on family 2", SCRIPT_VERDICTS),
+    once(Group::Verdict3, "on family 3", SCRIPT_VERDICTS),
+    once(Group::Verdict4, "on family 4", SCRIPT_VERDICTS),
     often(
         Group::JobEnding,
         "end",
@@ -219,6 +222,17 @@ const EXPECTED: &[Expected] = &[
             (5, "searched less"),
             (6, "the very same run"),
         ],
+    ),
+    often(
+        Group::Witness,
+        "witness",
+        &[(0, "done"), (9, "9"), (14, "14")],
+    ),
+    often(Group::Shown, "shown", SCRIPT_VERDICTS),
+    often(
+        Group::LogRows,
+        "rows",
+        &[(0, "1"), (1, "2 to 170"), (2, "171")],
     ),
     once(Group::NormalGate, "normal", READINGS),
     once(Group::InvertedGate, "inverted", READINGS),

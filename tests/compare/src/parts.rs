@@ -9,6 +9,7 @@ use crate::pairs::Pairs;
 use crate::part::Part;
 use crate::replays::Replays;
 use crate::steps::Steps;
+use crate::witnesses::Witnesses;
 
 /// What is done with each part, whose cases are of different types.
 pub trait Visitor {
@@ -41,6 +42,10 @@ pub fn each(amounts: &Amounts, visitor: &mut impl Visitor) {
     visitor.visit(&Pairs {
         seed,
         pairs: amounts.pairs,
+    });
+    visitor.visit(&Witnesses {
+        seed,
+        witnesses: amounts.witnesses,
     });
     visitor.visit(&Gates {
         seed,

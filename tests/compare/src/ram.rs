@@ -9,7 +9,7 @@ use crate::shrink::{zeroed, Shrinker};
 use crate::upload::image;
 
 /// How code and marks are made from a script, so that a shrinker can drop its instructions.
-#[derive(Clone, Debug)]
+#[derive(Clone, Debug, PartialEq)]
 pub struct Ram {
     pub family: u8,
     pub script: Script,

@@ -1,5 +1,6 @@
-//! How numbers, bytes and lists are printed.
+//! How numbers, bytes, lists and states are printed.
 
+use hwsq::State;
 pub use second::show::bytes;
 
 /// A number with a comma after each thousand.
@@ -32,4 +33,24 @@ pub fn list(items: impl Iterator<Item = String>) -> String {
         return "-".to_string();
     }
     items.join(" ")
+}
+
+/// A state in a line; code as hex, and the marks as ones.
+pub fn state(state: &State) -> String {
+    let uploaded = state.marks.iter().rposition(|&mark| mark != 0);
+    let end = uploaded.map_or(0, |last| last + 1);
+    format!(
+        "family {} enable {} override {} values {:08x} enables {:08x} entries {:08x} {:08x} A {:x?} B {:x?} code {} marks {}",
+        state.family,
+        state.enable,
+        state.override_mode,
+        state.values,
+        state.enables,
+        state.entries,
+        state.entries_high,
+        state.a,
+        state.b,
+        bytes(&state.code[..end]),
+        bytes(&state.marks[..end]),
+    )
 }

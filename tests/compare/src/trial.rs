@@ -13,6 +13,7 @@ pub const FEW: Amounts = Amounts {
     audits: 8_000,
     replays: 8_000,
     pairs: 4_000,
+    witnesses: 8_000,
     readings: 20_000,
     programs: 0,
     writer_stride: 8,

@@ -149,29 +149,9 @@ fn count_step(step: &Stepped, slot: u8, tally: &mut Tally) {
     tally.count(Group::Mode, stepped.mode);
 }
 
-/// A state in a line; code as hex, and the marks as ones.
-fn told_state(state: &State) -> String {
-    let uploaded = state.marks.iter().rposition(|&mark| mark != 0);
-    let end = uploaded.map_or(0, |last| last + 1);
-    format!(
-        "family {} enable {} override {} values {:08x} enables {:08x} entries {:08x} {:08x} A {:x?} B {:x?} code {} marks {}",
-        state.family,
-        state.enable,
-        state.override_mode,
-        state.values,
-        state.enables,
-        state.entries,
-        state.entries_high,
-        state.a,
-        state.b,
-        show::bytes(&state.code[..end]),
-        show::bytes(&state.marks[..end]),
-    )
-}
-
 fn told_accesses(proved: &Access, second: &Access) -> String {
     let told =
-        |access: &Access| format!("refusal {} {}", access.refusal, told_state(&access.state));
+        |access: &Access| format!("refusal {} {}", access.refusal, show::state(&access.state));
     format!("  proved {}\n  second {}", told(proved), told(second))
 }
 
@@ -188,7 +168,7 @@ fn told_steps(proved: &Stepped, second: &Stepped) -> String {
             step.used,
             step.waited,
             step.searched,
-            told_state(&step.state)
+            show::state(&step.state)
         )
     };
     format!("  proved {}\n  second {}", told(proved), told(second))

@@ -21,11 +21,11 @@ lend-spec =
     (λ c. search needs)
     (λ c. search needs)
     (λ c. search needs)
+    (λ c. search needs)
     slice-aggregate-tell
     (λ c. search needs)
     slice-aggregate-tell-2
     (λ c. search needs)
     slice-aggregate-tell-3
     (λ c κs. search needs)
-    (λ c. search needs)
     (λ c. search needs))

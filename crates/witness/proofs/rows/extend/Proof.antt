@@ -21,7 +21,10 @@ add-t15 c =
     omega (arith, ap waitLength (told .action .given .1), start (told .before .before) .pre .6)
 
 returns : tie.Need-returns
-returns c =
+returns c = extends-wait _ _ _ _ (c .before .before .action .given .1)
+
+returns-2 : tie.Need-returns-2
+returns-2 c =
     let told = c .before .before .before in
     extends-released _ _ _ _ _ (told .action2 .given .1) (sym (c .before .has-reading .ensures) ∙ c .if1 .taken)
 
@@ -29,9 +32,6 @@ event-row-requires : tie.Need-event-row-requires
 event-row-requires c κs =
     let told = c .before .before .before .before .before .before .before .before .before .before .before .before .before in
     start (told .before .before) .pre .7 _ _ (told .action2 .given .1)
-
-returns-2 : tie.Need-returns-2
-returns-2 c = extends-wait _ _ _ _ (c .before .before .action .given .1)
 
 returns-3 : tie.Need-returns-3
 returns-3 c =
@@ -57,12 +57,12 @@ extend-spec =
     add-t15
     (λ c. search needs)
     (λ c κs. search needs)
-    returns
     (λ c κs. search needs)
     event-row-requires
     (λ c. search needs)
     (λ c. search needs)
     (λ c. search needs)
+    returns
     returns-2
     (λ c. search needs)
     (λ c. search needs)
