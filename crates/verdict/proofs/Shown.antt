@@ -266,7 +266,8 @@ module _ (x : Script) (entry : ℕ) (fit : Auditable x entry) {q : ℕ} {k : Kno
     passed-by = ap (λ (r : SlotRun). suc (r .ewaits)) (same start) ∙ arrived start .passed-by ∙ sym (length-map (witnessRows x w) (λ (r : Row). r .clocks))
 
     -- what the next step shows
-    shows : {v : Verdict} → Ends x q k v → ShowsVerdict (x .family) (x .code) (x .marks) entry (x .ranges) log (witness-valid x w) (witness-masks x w) steps start v
+    shows : {v : Verdict} → Ends x q k v
+        → ShowsVerdict (x .family) (x .code) (x .marks) entry (x .ranges) log (witness-valid x w) (witness-masks x w) steps start v
     shows (at-refused why e) = refused-sees why e
     shows (at-bad action n fault e b) = blamed-sees action n fault e b
     shows (at-exit n e unpaused) =

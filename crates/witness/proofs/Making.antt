@@ -35,42 +35,41 @@ use Rattle.verdict.proofs.Walk.{Walk, here, more, actionsOf, walk-forward, way-
 use Rattle.verdict.proofs.Claim.{audit-walked}
 use Rattle.verdict.proofs.WitnessLog.{Bounded, bounded-next, bounded-start, wait-short, RowFits, first-fits, row-fits-after, reads-size}
 use Rattle.witness.specs.Witnesses.{way}
-use Rattle.witness.specs.Inside.{withRow, nothingMade, madeAfter, Extends, Follows}
+use Rattle.witness.specs.Inside.{withRow, timelineOf, nothingMade, madeAfter, Extends, Follows}
 use Rattle.witness.specs.declared.rows.Timeline.{Timeline}
 
 -- ---- one instruction
 
-module _ (made : Timeline) (old : Log) where
-  -- one step more, in this row, with so many rows before it
-  abbrev pub stepped : Row → ℕ → ℕ → Timeline
-  stepped row before writes = record { row = row; before = before; steps = made .steps + 1; writes = writes }
+-- one step more, in this row, with so many rows before it
+abbrev stepped : Timeline → Row → ℕ → ℕ → Timeline
+stepped made row before writes = timelineOf row before (made .steps + 1) writes
 
-  pub extends-wait : (action : Action) (n : ℕ) → action ≡ Action.Wait n
-      → Extends action made old old
-      (stepped (record { clocks = made .row .clocks + n; known = made .row .known; values = made .row .values }) (made .before) (made .writes))
-  extends-wait action n e = rw e (record { made-is = simp add-zero; put = refl })
+module _ (made : Timeline) (old : Log) {answer : Timeline} where
+  pub extends-wait : (action : Action) (n : ℕ) → action ≡ Action.Wait n → {row : Row} → row ≡ rowAfter (Action.Wait n) (made .row)
+      → answer ≡ stepped made row (made .before) (made .writes) → Extends action made old old answer
+  extends-wait action n e r told = rw (e, told, r) (record { made-is = simp add-zero; put = refl })
 
   pub extends-released : (action : Action) (event value : ℕ) → action ≡ Action.Ewait event value → releases (made .row) event value ≡ true
-      → Extends action made old old (stepped (made .row) (made .before) (made .writes))
-  extends-released action event value e t = rw e (record { made-is = simp (t, add-zero); put = rw t refl })
+      → answer ≡ stepped made (made .row) (made .before) (made .writes) → Extends action made old old answer
+  extends-released action event value e t told = rw (e, told) (record { made-is = simp (t, add-zero); put = rw t refl })
 
   pub extends-begun : (action : Action) (event value : ℕ) → action ≡ Action.Ewait event value → releases (made .row) event value ≡ false
       → {row : Row} {new : Log} → row ≡ eventRow event value → new ≡ withRow old (made .before) (made .row)
-      → Extends action made old new (stepped row (made .before + 1) (made .writes))
-  extends-begun action event value e t r p = rw (e, r) (record { made-is = simp (t, add-zero); put = p ∙ rw t refl })
+      → answer ≡ stepped made row (made .before + 1) (made .writes) → Extends action made old new answer
+  extends-begun action event value e t r p told = rw (e, told, r) (record { made-is = simp (t, add-zero); put = p ∙ rw t refl })
 
   pub extends-poke : (action : Action) (part : Part) (word : ℕ) → action ≡ Action.Poke part word
-      → Extends action made old old (stepped (made .row) (made .before) (made .writes + 1))
-  extends-poke action part word e = rw e (record { made-is = simp add-zero; put = refl })
+      → answer ≡ stepped made (made .row) (made .before) (made .writes + 1) → Extends action made old old answer
+  extends-poke action part word e told = rw (e, told) (record { made-is = simp add-zero; put = refl })
 
   pub extends-other : (action : Action) → OneOf (2 ∷ 3 ∷ 5 ∷ []) (tagOf action-type action)
-      → Extends action made old old (stepped (made .row) (made .before) (made .writes))
-  extends-other (Action.Wait n) h = none (2 ∷ 3 ∷ 5 ∷ []) 0 tt h
-  extends-other (Action.Ewait event value) h = none (2 ∷ 3 ∷ 5 ∷ []) 1 tt h
-  extends-other (Action.Flag change flag) h = record { made-is = simp add-zero; put = refl }
-  extends-other (Action.Load part word) h = record { made-is = simp add-zero; put = refl }
-  extends-other (Action.Poke part word) h = none (2 ∷ 3 ∷ 5 ∷ []) 4 tt h
-  extends-other Action.Exit h = record { made-is = simp add-zero; put = refl }
+      → answer ≡ stepped made (made .row) (made .before) (made .writes) → Extends action made old old answer
+  extends-other (Action.Wait n) h told = none (2 ∷ 3 ∷ 5 ∷ []) 0 tt h
+  extends-other (Action.Ewait event value) h told = none (2 ∷ 3 ∷ 5 ∷ []) 1 tt h
+  extends-other (Action.Flag change flag) h told = rw told (record { made-is = simp add-zero; put = refl })
+  extends-other (Action.Load part word) h told = rw told (record { made-is = simp add-zero; put = refl })
+  extends-other (Action.Poke part word) h told = none (2 ∷ 3 ∷ 5 ∷ []) 4 tt h
+  extends-other Action.Exit h told = rw told (record { made-is = simp add-zero; put = refl })
 
 -- ---- the walk to the place, one instruction at a time
 
@@ -209,7 +208,8 @@ module _ {x : Script} {place : ℕ} {all : List Action} {lent log : Log} {at : �
     pub inside : (0 < n) × (at + n ≤ 512)
     inside = let e = step .reads in (e .some, omega (arith, e .inside, size-small (x .family)))
 
-    pub counts-fit : (made .before < 1024) × (made .steps < 1024) × (made .writes < 1024) × (made .row .clocks + waitLength action < 2 ^ 64) × (Releasable action)
+    pub counts-fit : (made .before < 1024) × (made .steps < 1024) × (made .writes < 1024)
+        × (made .row .clocks + waitLength action < 2 ^ 64) × (Releasable action)
     counts-fit =
         let short = wait-short action (step .reads .formed) in (
           omega (arith, few, g .counted),

@@ -15,18 +15,17 @@ use Rattle.witness.specs.declared.rows.Timeline.{Timeline}
 abbrev pub withRow : Log → ℕ → Row → Log
 withRow old at row = logOf (set (old .clocks) at (row .clocks)) (set (old .known) at (row .known)) (set (old .values) at (row .values))
 
+abbrev pub timelineOf : Row → ℕ → ℕ → ℕ → Timeline
+timelineOf row before steps writes = record { row = row; before = before; steps = steps; writes = writes }
+
 -- at the entry
 abbrev pub nothingMade : Timeline
-nothingMade = record { row = firstRow; before = 0; steps = 0; writes = 0 }
+nothingMade = timelineOf firstRow 0 0 0
 
 -- one action more
 abbrev pub madeAfter : Action → Timeline → Timeline
-madeAfter action made = record {
-  row = rowAfter action (made .row);
-  before = made .before + length (rowsEnded action (made .row));
-  steps = made .steps + 1;
-  writes = made .writes + pokeCount action;
-}
+madeAfter action made =
+    timelineOf (rowAfter action (made .row)) (made .before + length (rowsEnded action (made .row))) (made .steps + 1) (made .writes + pokeCount action)
 
 pub record Extends (action : Action) (made : Timeline) (old new : Log) (answer : Timeline) : Type 0 where
   pub made-is : answer ≡ madeAfter action made

@@ -5,8 +5,8 @@ ghost use Prim.Native.Nat.{_+_, _^_, _<_};
 ghost use lib.ListN.{length};
 ghost use Rattle.log.specs.Log.{logOf};
 ghost use Rattle.verdict.specs.Auditor.{Releasable, canRelease, waitLength};
-ghost use Rattle.verdict.specs.Witness.{eventRow};
-ghost use Rattle.witness.specs.Inside.{withRow, nothingMade, Extends};
+ghost use Rattle.verdict.specs.Witness.{eventRow, rowAfter};
+ghost use Rattle.witness.specs.Inside.{withRow, timelineOf, nothingMade, Extends};
 use actions::Action;
 use log::Row;
 
@@ -18,6 +18,17 @@ pub struct Timeline {
     pub writes: usize,
 }
 
+fn made_so(row: Row, before: usize, steps: usize, writes: usize) -> Timeline
+    ensures { λ r. ⌜ r ≡ timelineOf row before steps writes ⌝ }
+{
+    Timeline {
+        row,
+        before,
+        steps,
+        writes,
+    }
+}
+
 // At the entry: one clock, and no event has a reading.
 pub(crate) fn begin() -> Timeline
     ensures { λ r. ⌜ r ≡ nothingMade ⌝ }
@@ -27,11 +38,18 @@ pub(crate) fn begin() -> Timeline
         known: 0,
         values: 0,
     };
-    Timeline {
-        row,
-        before: 0,
-        steps: 0,
-        writes: 0,
+    made_so(row, 0, 0, 0)
+}
+
+// A row made longer by a wait.
+fn longer(row: Row, n: u64) -> Row
+    requires { ⌜ row .clocks + n < 2 ^ 64 ⌝ }
+    ensures { λ r. ⌜ r ≡ rowAfter (Action.Wait n) row ⌝ }
+{
+    Row {
+        clocks: row.clocks + n,
+        known: row.known,
+        values: row.values,
     }
 }
 
@@ -83,48 +101,16 @@ pub(crate) fn extend(
     let steps = made.steps + 1;
     let writes = made.writes;
     match action {
-        Action::Wait(n) => {
-            let longer = Row {
-                clocks: row.clocks + n,
-                known: row.known,
-                values: row.values,
-            };
-            Timeline {
-                row: longer,
-                before,
-                steps,
-                writes,
-            }
-        }
+        Action::Wait(n) => made_so(longer(row, n), before, steps, writes),
         Action::Ewait(event, value) => {
             if ewaits::has_reading(row.known, row.values, event, value) {
-                Timeline {
-                    row,
-                    before,
-                    steps,
-                    writes,
-                }
+                made_so(row, before, steps, writes)
             } else {
                 put_row(row, before, clocks, known, values);
-                Timeline {
-                    row: event_row(event, value),
-                    before: before + 1,
-                    steps,
-                    writes,
-                }
+                made_so(event_row(event, value), before + 1, steps, writes)
             }
         }
-        Action::Poke(_, _) => Timeline {
-            row,
-            before,
-            steps,
-            writes: writes + 1,
-        },
-        _ => Timeline {
-            row,
-            before,
-            steps,
-            writes,
-        },
+        Action::Poke(_, _) => made_so(row, before, steps, writes + 1),
+        _ => made_so(row, before, steps, writes),
     }
 }

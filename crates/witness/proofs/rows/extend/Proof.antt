@@ -15,18 +15,19 @@ module _ (c : tie.After-struct-known) where
   start = c .before .before .before .before .before
 
 -- a wait's clocks still fit
-add-t15 : tie.Need-add-t15
-add-t15 c =
-    let told = c .before .before in
+longer-requires : tie.Need-longer-requires
+longer-requires c κs =
+    let told = c .before in
     omega (arith, ap waitLength (told .action .given .1), start (told .before .before) .pre .6)
 
 returns : tie.Need-returns
-returns c = extends-wait _ _ _ _ (c .before .before .action .given .1)
+returns c = extends-wait _ _ _ _ (c .before .before .before .action .given .1) (c .before .longer .ensures) (c .made-so .ensures)
 
 returns-2 : tie.Need-returns-2
 returns-2 c =
-    let told = c .before .before .before in
-    extends-released _ _ _ _ _ (told .action2 .given .1) (sym (c .before .has-reading .ensures) ∙ c .if1 .taken)
+    let taken = c .before in
+    let told = taken .before .before .before in
+    extends-released _ _ _ _ _ (told .action2 .given .1) (sym (taken .before .has-reading .ensures) ∙ taken .if1 .taken) (c .made-so2 .ensures)
 
 event-row-requires : tie.Need-event-row-requires
 event-row-requires c κs =
@@ -35,18 +36,19 @@ event-row-requires c κs =
 
 returns-3 : tie.Need-returns-3
 returns-3 c =
-    let put = c .before .before .before .before .before .before .before in
+    let begun = c .before in
+    let put = begun .before .before .before .before .before .before .before in
     let kept = put .before .before .before .before in
     let told = kept .before .before .before in
     let a = start (told .before .before) .args in
     extends-begun (a .made) (logOf (now (a .clocks)) (now (a .known)) (now (a .values))) _ _ _ (told .action2 .given .1)
-    (sym (kept .before .has-reading .ensures) ∙ kept .if1 .left) (c .event-row .ensures) (put .put-row .ensures)
+    (sym (kept .before .has-reading .ensures) ∙ kept .if1 .left) (begun .event-row .ensures) (put .put-row .ensures) (c .made-so3 .ensures)
 
 returns-4 : tie.Need-returns-4
-returns-4 c = extends-poke _ _ _ _ _ (c .enum-told .given .1)
+returns-4 c = extends-poke _ _ _ _ _ (c .before .enum-told .given .1) (c .made-so4 .ensures)
 
 returns-5 : tie.Need-returns-5
-returns-5 c = extends-other _ _ _ (c .match .keys4)
+returns-5 c = extends-other _ _ _ (c .before .match .keys4) (c .made-so5 .ensures)
 
 pub extend-spec : {M : Type 1} → statement M
 extend-spec =
@@ -54,14 +56,19 @@ extend-spec =
     (tie.spec
     (λ c. search needs)
     (λ c. search needs)
-    add-t15
+    longer-requires
+    (λ c κs. search needs)
     (λ c. search needs)
+    (λ c κs. search needs)
     (λ c κs. search needs)
     (λ c κs. search needs)
     event-row-requires
     (λ c. search needs)
+    (λ c κs. search needs)
     (λ c. search needs)
     (λ c. search needs)
+    (λ c κs. search needs)
+    (λ c κs. search needs)
     returns
     returns-2
     (λ c. search needs)

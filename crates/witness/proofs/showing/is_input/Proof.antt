@@ -1,6 +1,6 @@
 -- The numbers of other faults are not 9. Assumes nothing.
 use mathlib.Core.Path.{_≡_, refl, sym, ap, _∙_}
-use mathlib.Core.Bool.{Bool, false}
+use mathlib.Core.Bool.{false}
 use mathlib.Core.List.{[], _∷_}
 use lib.Dec.{eqb}
 use denote.Enum.Declared.{tagOf}
