@@ -4,8 +4,12 @@ use Rattle.capi_witness.proofs.Passing.{witness-passed}
 use Rattle.capi_witness.proofs.showing.hwsq_witness.Statement.{statement}
 use Rattle.capi_witness.proofs.showing.hwsq_witness.Tie as tie
 
+-- what was answered, before the columns come back
+abbrev answered : tie.After-witness-reply → tie.After-witness
+answered c = c .before .before .before .before .before .before .before
+
 returns : tie.Need-returns
-returns c = witness-passed (c .before .before .before .before .before .before .before .witness .ensures) (c .witness-reply .ensures)
+returns c = witness-passed (answered c .witness .ensures) (c .witness-reply .ensures)
 
 pub hwsq-witness-spec : {M : Type 1} → statement M
 hwsq-witness-spec =

@@ -14,6 +14,18 @@ module _ (c : tie.After-struct-known) where
   abbrev start : tie.Start
   start = c .before .before .before .before .before
 
+-- the ewait that is done, and the row that is put where the present one does not release it
+module _ (c : tie.After-put-row) where
+  abbrev kept : tie.Else1
+  kept = c .before .before .before .before
+
+  abbrev ewait : tie.After-action2
+  ewait = kept .before .before .before
+
+-- from the last place of that arm back to where the row is put
+abbrev row-put : tie.After-slice-known6 → tie.After-put-row
+row-put c = c .before .before .before .before .before .before
+
 -- a wait's clocks still fit
 longer-requires : tie.Need-longer-requires
 longer-requires c κs =
@@ -31,18 +43,17 @@ returns-2 c =
 
 event-row-requires : tie.Need-event-row-requires
 event-row-requires c κs =
-    let told = c .before .before .before .before .before .before .before .before .before .before .before .before .before in
+    let told = ewait (row-put c) in
     start (told .before .before) .pre .7 _ _ (told .action2 .given .1)
 
 returns-3 : tie.Need-returns-3
 returns-3 c =
     let begun = c .before in
-    let put = begun .before .before .before .before .before .before .before in
-    let kept = put .before .before .before .before in
-    let told = kept .before .before .before in
+    let put = row-put (begun .before) in
+    let told = ewait put in
     let a = start (told .before .before) .args in
     extends-begun (a .made) (logOf (now (a .clocks)) (now (a .known)) (now (a .values))) _ _ _ (told .action2 .given .1)
-    (sym (kept .before .has-reading .ensures) ∙ kept .if1 .left) (begun .event-row .ensures) (put .put-row .ensures) (c .made-so3 .ensures)
+    (sym (kept put .before .has-reading .ensures) ∙ kept put .if1 .left) (begun .event-row .ensures) (put .put-row .ensures) (c .made-so3 .ensures)
 
 returns-4 : tie.Need-returns-4
 returns-4 c = extends-poke _ _ _ _ _ (c .before .enum-told .given .1) (c .made-so4 .ensures)
