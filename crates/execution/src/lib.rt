@@ -1,26 +1,46 @@
 // Which slots execute a script.
 ghost use mathlib.Core.Path.{_≡_};
-ghost use Rattle.execution.specs.Execution.{someSlotExecutes, executingSlot};
+ghost use mathlib.Core.Bool.{not, _&&_};
+ghost use Rattle.state.specs.Slot.{hasSlot, isIdle};
+ghost use Rattle.execution.specs.Execution.{someExecutes, someSlotExecutes, executingSlot};
 ghost use Rattle.execution.specs.Execution.{executes as Execution·executes};
+use state::Mode;
 use state::SlotName;
 use state::State;
 use state::has_slot;
 use state::is_idle;
 use state::slot_of;
 
-// Whether the slot executes: it is not idle, and the family has it.
+// A slot executes unless it is idle; one that the family lacks never does.
+fn is_executing(family: u8, name: SlotName, mode: Mode) -> bool
+    ensures { λ r. ⌜ r ≡ (hasSlot family name && not (isIdle mode)) ⌝ }
+{
+    has_slot(family, name) && !is_idle(mode)
+}
+
 pub fn executes(state: State, name: SlotName) -> bool
     ensures { λ r. ⌜ r ≡ Execution·executes state name ⌝ }
 {
     let slot = slot_of(state, name);
     let mode = slot.mode;
-    has_slot(state.family, name) && !is_idle(mode)
+    is_executing(state.family, name, mode)
+}
+
+// Whether a slot of the family executes, where A and B are in these modes.
+pub fn some_executes(family: u8, a: Mode, b: Mode) -> bool
+    ensures { λ r. ⌜ r ≡ someExecutes family a b ⌝ }
+{
+    is_executing(family, SlotName::A, a) || is_executing(family, SlotName::B, b)
 }
 
 pub fn some_slot_executes(state: State) -> bool
     ensures { λ r. ⌜ r ≡ someSlotExecutes state ⌝ }
 {
-    executes(state, SlotName::A) || executes(state, SlotName::B)
+    let a = state.a;
+    let b = state.b;
+    let mode_a = a.mode;
+    let mode_b = b.mode;
+    some_executes(state.family, mode_a, mode_b)
 }
 
 // The slot that executes, where one does.

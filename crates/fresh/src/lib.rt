@@ -2,6 +2,7 @@
 ghost use mathlib.Core.Path.{_≡_};
 ghost use mathlib.Core.Bool.{cond};
 ghost use Rattle.families.specs.Family.{knownFamily};
+ghost use Rattle.state.specs.Sequencer.{sequencerOf};
 ghost use Rattle.registers.specs.Access.{blankState};
 ghost use Rattle.registers.specs.Promises.{Begins};
 use flags::Flags;
@@ -11,12 +12,13 @@ use refusals::Inaccessible;
 use registers::Access;
 use registers::Outcome;
 use state::Mode;
+use state::Sequencer;
 use state::Slot;
-use state::State;
+use state::state_from;
 
-// Every register 0, nothing uploaded, both slots idle.
-fn blank_state(family: u8) -> State
-    ensures { λ r. ⌜ r ≡ blankState family ⌝ }
+// Every register 0, both slots idle.
+pub fn fresh_sequencer(family: u8) -> Sequencer
+    ensures { λ r. ⌜ r ≡ sequencerOf (blankState family) ⌝ }
 {
     let slot = Slot {
         mode: Mode::Idle,
@@ -24,10 +26,8 @@ fn blank_state(family: u8) -> State
         addr: MmioAddress(0),
         data: 0,
     };
-    State {
+    Sequencer {
         family,
-        code: [0u8; 512],
-        marks: [0u8; 512],
         flags: Flags {
             values: 0,
             enables: 0,
@@ -54,7 +54,7 @@ fn fresh_outcome(family: u8) -> Outcome
 pub fn fresh_state(family: u8) -> Access
     ensures { λ r. ⌜ Begins family r ⌝ }
 {
-    let state = blank_state(family);
+    let state = state_from(fresh_sequencer(family), [0u8; 512], [0u8; 512]);
     let outcome = fresh_outcome(family);
     Access { state, outcome }
 }

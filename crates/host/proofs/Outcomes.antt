@@ -1,6 +1,6 @@
 -- What the tests of an access come to, and what it leaves. Assumes nothing.
 use Prim.Native.Nat.{ℕ, _/_, _%_}
-use mathlib.Core.Path.{_≡_, refl, sym}
+use mathlib.Core.Path.{_≡_, refl, sym, _∙_}
 use mathlib.Core.Bool.{Bool, true, false, cond, _||_}
 use native.Mathlib.Omega.{arith}
 use Rattle.families.specs.Family.{knownFamily}
@@ -63,8 +63,12 @@ module _ (s : State) (address : MmioAddress) (word : ℕ) where
       chosen true false taken = refl
       chosen false writable taken = refl
 
-  pub write-done : writeOutcome (s .family) register (isTaken s address word) ≡ Outcome.Done → done (afterWrite s register word) ≡ writeOf s address word
-  write-done e = sym (rw e at answers)
+  -- what a write answers, by the outcome of its tests
+  pub write-done : {there : Register} {outcome : Outcome} {t : State} → there ≡ register
+      → outcome ≡ writeOutcome (s .family) register (isTaken s address word) → outcome ≡ Outcome.Done → t ≡ afterWrite s there word
+      → _≡_ {A = Access} (record { state = t; outcome = outcome }) (writeOf s address word)
+  write-done r o d e = rw (e, r, d) (sym (rw (sym o ∙ d) at answers))
 
-  pub write-refused : {why : Inaccessible} → writeOutcome (s .family) register (isTaken s address word) ≡ Outcome.Refused why → refused s why ≡ writeOf s address word
-  write-refused e = sym (rw e at answers)
+  pub write-refused : {outcome : Outcome} {why : Inaccessible} → outcome ≡ writeOutcome (s .family) register (isTaken s address word)
+      → outcome ≡ Outcome.Refused why → _≡_ {A = Access} (record { state = s; outcome = outcome }) (writeOf s address word)
+  write-refused o d = rw d (sym (rw (sym o ∙ d) at answers))

@@ -1,56 +1,67 @@
 // The host's writes and reads.
 ghost use mathlib.Core.Path.{_≡_};
 ghost use mathlib.Core.Bool.{not, _||_};
-ghost use Rattle.registers.specs.Access.{afterWrite, isAbort, controlWord, readingOf};
+ghost use Rattle.state.specs.Sequencer.{stateFrom};
+ghost use Rattle.registers.specs.Access.{accessOf, afterWrite, isAbort, controlWord, readingOf};
 ghost use Rattle.registers.specs.Register.{InRoom};
-ghost use Rattle.registers.specs.Promises.{HostWrites, HostReads};
+ghost use Rattle.registers.specs.Promises.{WritesInPlace, HostWrites, HostReads};
 ghost use Rattle.host.specs.Inside.{writeOutcome};
 use crate::addresses::TRIGGER;
 use crate::addresses::is_writable;
 use crate::addresses::register_at;
-use crate::code::after_upload;
 use crate::code::code_word;
+use crate::code::upload;
 use crate::entries::entry_bits;
 use crate::status::bit_if;
 use crate::status::status_word;
 use crate::triggers::after_trigger;
 use crate::triggers::is_start;
-use execution::some_slot_executes;
+use execution::some_executes;
 use isa::MmioAddress;
 use refusals::Inaccessible;
 use registers::Access;
 use registers::Outcome;
 use registers::Reading;
 use registers::Register;
+use registers::Written;
+use state::Sequencer;
 use state::State;
+use state::sequencer_of;
+use state::state_from;
 
-// The state after a word is written to a register that takes one.
-fn after_write(mut state: State, register: Register, word: u32) -> State
+// The sequencer after a word is written to a register that takes one; a code register's bytes are stored in place.
+fn after_write(
+    mut sequencer: Sequencer,
+    register: Register,
+    word: u32,
+    code: &mut [u8; 512],
+    marks: &mut [u8; 512],
+) -> Sequencer
     requires { ⌜ InRoom register ⌝ }
-    ensures { λ r. ⌜ r ≡ afterWrite state register word ⌝ }
+    ensures { λ r. ⌜ stateFrom r (now (code .exit)) (now (marks .exit)) ≡ afterWrite (stateFrom sequencer (now (code .entry)) (now (marks .entry))) register word ⌝ }
 {
     match register {
         Register::Control => {
-            state.enable = word / 8 % 2 == 1;
-            state.override_mode = word / 16 % 2 == 1;
+            sequencer.enable = word / 8 % 2 == 1;
+            sequencer.override_mode = word / 16 % 2 == 1;
         }
-        Register::EntryPoint => state.entries = word,
+        Register::EntryPoint => sequencer.entries = word,
         Register::Status => {}
-        Register::Trigger => return after_trigger(state, word),
+        Register::Trigger => return after_trigger(sequencer, word),
         Register::Flags0 => {
-            let flags = state.flags;
-            state.flags = flags::flags_from_words(word, flags::flags_word_1(flags));
+            let flags = sequencer.flags;
+            sequencer.flags = flags::flags_from_words(word, flags::flags_word_1(flags));
         }
         Register::Flags1 => {
-            let flags = state.flags;
-            state.flags = flags::flags_from_words(flags::flags_word_0(flags), word);
+            let flags = sequencer.flags;
+            sequencer.flags = flags::flags_from_words(flags::flags_word_0(flags), word);
         }
-        Register::EntryPointHigh => state.entries_high = entry_bits(word),
-        Register::Code(at) => return after_upload(state, at.0, word),
+        Register::EntryPointHigh => sequencer.entries_high = entry_bits(word),
+        Register::Code(at) => upload(code, marks, at.0, word),
         Register::Events => {}
         Register::Unlisted => {}
     }
-    state
+    sequencer
 }
 
 // While a slot executes, only an abort is taken.
@@ -79,18 +90,45 @@ fn write_outcome(family: u8, register: Register, taken: bool) -> Outcome
     Outcome::Done
 }
 
-// The state after the host writes a word at an address; a refused write leaves it as it is.
-pub fn write_register(mut state: State, address: MmioAddress, word: u32) -> Access
-    ensures { λ r. ⌜ HostWrites state address word r ⌝ }
+// The host writes a word at an address of a sequencer whose code RAM is lent: tested and made in one call. A refused write
+// leaves all as it is.
+pub fn write(
+    mut sequencer: Sequencer,
+    address: MmioAddress,
+    word: u32,
+    code: &mut [u8; 512],
+    marks: &mut [u8; 512],
+) -> Written
+    ensures { λ r. ⌜ WritesInPlace (stateFrom sequencer (now (code .entry)) (now (marks .entry))) address word (accessOf r (now (code .exit)) (now (marks .exit))) ⌝ }
 {
-    let register = register_at(state.family, address);
-    let taken = is_taken(address, word, some_slot_executes(state));
-    let outcome = write_outcome(state.family, register, taken);
+    let a = sequencer.a;
+    let b = sequencer.b;
+    let mode_a = a.mode;
+    let mode_b = b.mode;
+    let register = register_at(sequencer.family, address);
+    let executing = some_executes(sequencer.family, mode_a, mode_b);
+    let taken = is_taken(address, word, executing);
+    let outcome = write_outcome(sequencer.family, register, taken);
     match outcome {
-        Outcome::Done => state = after_write(state, register, word),
+        Outcome::Done => sequencer = after_write(sequencer, register, word, code, marks),
         Outcome::Refused(_) => {}
     }
-    Access { state, outcome }
+    Written { sequencer, outcome }
+}
+
+// The state after the host writes a word at an address; a refused write leaves it as it is.
+pub fn write_register(state: State, address: MmioAddress, word: u32) -> Access
+    ensures { λ r. ⌜ HostWrites state address word r ⌝ }
+{
+    let mut code = state.code;
+    let mut marks = state.marks;
+    let written = write(sequencer_of(state), address, word, &mut code, &mut marks);
+    let sequencer = written.sequencer;
+    let outcome = written.outcome;
+    Access {
+        state: state_from(sequencer, code, marks),
+        outcome,
+    }
 }
 
 fn control_word(enable: bool, override_mode: bool) -> u32

@@ -1,26 +1,28 @@
 // Code RAM as the host sees it: words of four bytes, the lowest byte first.
 ghost use mathlib.Core.Path.{_≡_};
 ghost use Prim.Native.Nat.{_+_, _*_, _≤_};
-ghost use Rattle.registers.specs.Code.{byteIn, codeWord, afterUpload};
+ghost use lib.Seq.{sets};
+ghost use Rattle.isa.specs.Writer.{leBytes};
+ghost use Rattle.registers.specs.Code.{byteIn, codeWord, fourMarks};
 use state::State;
 
-// The state with four bytes uploaded from a place on.
-pub(crate) fn after_upload(mut state: State, at: usize, word: u32) -> State
+// Uploads four bytes from a place on, and marks them.
+pub(crate) fn upload(code: &mut [u8; 512], marks: &mut [u8; 512], at: usize, word: u32)
     requires { ⌜ at + 4 ≤ 512 ⌝ }
-    ensures { λ r. ⌜ r ≡ afterUpload state at word ⌝ }
+    ensures { λ _. ⌜ now (code .exit) ≡ sets (now (code .entry)) at (leBytes 4 word) ⌝ }
+    ensures { λ _. ⌜ now (marks .exit) ≡ sets (now (marks .entry)) at fourMarks ⌝ }
 {
     let second = word / 256;
     let third = second / 256;
     let fourth = third / 256;
-    state.code[at] = (word % 256) as u8;
-    state.code[at + 1] = (second % 256) as u8;
-    state.code[at + 2] = (third % 256) as u8;
-    state.code[at + 3] = (fourth % 256) as u8;
-    state.marks[at] = 1;
-    state.marks[at + 1] = 1;
-    state.marks[at + 2] = 1;
-    state.marks[at + 3] = 1;
-    state
+    code[at] = (word % 256) as u8;
+    code[at + 1] = (second % 256) as u8;
+    code[at + 2] = (third % 256) as u8;
+    code[at + 3] = (fourth % 256) as u8;
+    marks[at] = 1;
+    marks[at + 1] = 1;
+    marks[at + 2] = 1;
+    marks[at + 3] = 1;
 }
 
 // A byte that was uploaded, and 0 where none was.

@@ -7,4 +7,5 @@ mod status;
 mod triggers;
 
 pub use access::read_register;
+pub use access::write;
 pub use access::write_register;

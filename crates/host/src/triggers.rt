@@ -1,13 +1,16 @@
 // Starting and aborting a script: what a word written to TRIGGER does.
 ghost use mathlib.Core.Path.{_≡_};
 ghost use mathlib.Core.Bool.{cond};
+ghost use mathlib.Core.List.{List};
+ghost use Prim.Native.Nat.{ℕ};
+ghost use Rattle.state.specs.Sequencer.{stateFrom};
 ghost use Rattle.registers.specs.Trigger.{isStart, slotNamed, startedAt, aborted, afterTrigger};
 use crate::entries::entry_point;
 use isa::CodeAddress;
 use state::Mode;
+use state::Sequencer;
 use state::Slot;
 use state::SlotName;
-use state::State;
 
 pub(crate) fn is_start(word: u32) -> bool
     ensures { λ r. ⌜ r ≡ isStart word ⌝ }
@@ -48,13 +51,26 @@ fn triggered(slot: Slot, word: u32, entry: usize) -> Slot
     }
 }
 
-pub(crate) fn after_trigger(state: State, word: u32) -> State
-    ensures { λ r. ⌜ r ≡ afterTrigger state word ⌝ }
+pub(crate) fn after_trigger(mut sequencer: Sequencer, word: u32) -> Sequencer
+    ensures { λ r. ⌜ ((code marks : List ℕ) → stateFrom r code marks ≡ afterTrigger (stateFrom sequencer code marks) word) ⌝ }
 {
-    let name = slot_named(state.family, word);
     let number = word / 4 % 4;
-    let entry = entry_point(state.family, state.entries, state.entries_high, number);
-    let flags = state.flags;
-    let slot = triggered(state::slot_of(state, name), word, entry);
-    state::with_slot(state, name, slot, flags)
+    let entry = entry_point(
+        sequencer.family,
+        sequencer.entries,
+        sequencer.entries_high,
+        number,
+    );
+    let name = slot_named(sequencer.family, word);
+    match name {
+        SlotName::A => {
+            let slot = sequencer.a;
+            sequencer.a = triggered(slot, word, entry);
+        }
+        SlotName::B => {
+            let slot = sequencer.b;
+            sequencer.b = triggered(slot, word, entry);
+        }
+    }
+    sequencer
 }

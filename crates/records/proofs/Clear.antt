@@ -1,18 +1,17 @@
 -- A record that is not refused passes each test of the listing. Assumes nothing.
-use Prim.Native.Nat.{ℕ, _+_, _≤_}
+use Prim.Native.Nat.{ℕ, _+_, _≤_, _<_}
 use mathlib.Core.Path.{_≡_, refl}
 use mathlib.Core.Bool.{Bool, true, false, cond, _&&_}
 use mathlib.Core.List.{List, [], _∷_}
 use native.Mathlib.Omega.{arith}
 use lib.Dec.{ltb}
 use lib.ListN.{length}
-use borrow.Author.Tests.{ltb-true, ltb-false, leb-false, eq-eqb, ne-eqb, not-false}
+use borrow.Author.Tests.{ltb-true, ltb-false, leb-false, eq-eqb, not-false}
 use Rattle.execution.specs.Execution.{someSlotExecutes}
 use Rattle.isa.proofs.Tests.{both-left, both-right}
 use Rattle.state.specs.declared.state.State.{State}
-use Rattle.records.specs.Inside.{HasRoom}
 use Rattle.records.specs.Records.{kindOf}
-use Rattle.records.specs.Refusals.{isCutShort, isTooMany, isBadRange, writeNumber, isBadRow, endsIdle, Test, firstOf, listing, refusalOf}
+use Rattle.records.specs.Refusals.{isCutShort, isTooMany, isBadRange, isBadRow, endsIdle, Test, firstOf, listing, refusalOf}
 use Rattle.records.specs.Words.{byteAt}
 use Rattle.records.specs.declared.contents.Counts.{Counts}
 
@@ -35,9 +34,13 @@ all-pass (test ∷ later) h e =
     let p = passes (test .fails) (test .number) (firstOf later) (both-left (ltb 0 (test .number)) (numbered later) h) e in
     (p .0, all-pass later (both-right (ltb 0 (test .number)) (numbered later) h) (p .1))
 
+-- room for one record more of this kind
+abbrev pub HasRoom : ℕ → Counts → Type 0
+HasRoom kind counts = kindOf counts kind .read < kindOf counts kind .most
+
 -- what the rest of the reading needs of that
 pub record Clear (rest : List ℕ) (counts : Counts) (s : State) : Type 0 where
-  pub whole : 1 + kindOf (byteAt rest 0) .body ≤ length rest
+  pub whole : 1 + kindOf counts (byteAt rest 0) .body ≤ length rest
   pub room : HasRoom (byteAt rest 0) counts
   pub range : isBadRange rest ≡ false
   pub row : isBadRow rest ≡ false
@@ -59,12 +62,3 @@ clear rest counts s e =
 pub end-started : (rest : List ℕ) (s : State) → endsIdle rest s ≡ false → byteAt rest 0 ≡ 0 → someSlotExecutes s ≡ true
 unfolding endsIdle
 end-started rest s h z = not-false (someSlotExecutes s) (rw (eq-eqb (byteAt rest 0) 0 z) at h)
-
--- a record that is no host write, and one that is no end, ask nothing of the state
-pub no-write : (rest : List ℕ) (s : State) → (byteAt rest 0 ≡ 2 → ⊥) → writeNumber rest s ≡ 0
-unfolding writeNumber
-no-write rest s h = rw (ne-eqb (byteAt rest 0) 2 h)
-
-pub no-end : (rest : List ℕ) (s : State) → (byteAt rest 0 ≡ 0 → ⊥) → endsIdle rest s ≡ false
-unfolding endsIdle
-no-end rest s h = rw (ne-eqb (byteAt rest 0) 0 h)

@@ -14,8 +14,7 @@ use Rattle.registers.proofs.HostMade.{HostMade, fresh-made, write-made}
 use Rattle.log.specs.Validity.{clocksInRange, rowsInRange, validLog}
 use Rattle.script.specs.Input.{rangesPaired}
 use Rattle.state.specs.declared.state.State.{State}
-use Rattle.records.specs.Inside.{HasRoom, stateAfter}
-use Rattle.records.specs.Job.{CountsFit, countOf, oneMore, counted, emptyJob, withState, withRange, withRow, withContent, afterRecord}
+use Rattle.records.specs.Job.{CountsFit, oneMore, counted, emptyJob, stateAfter, boundsAfter, columnAfter, afterRecord}
 use Rattle.records.specs.Job.{rangesOf, clocksOf, knownOf, valuesOf}
 use Rattle.records.specs.Reader.{Sound}
 use Rattle.records.specs.Records.{kindOf}
@@ -23,8 +22,7 @@ use Rattle.records.specs.Refusals.{isBadRange, isBadRow}
 use Rattle.records.specs.Words.{byteAt, wordAt, longAt}
 use Rattle.records.specs.declared.contents.Counts.{Counts}
 use Rattle.records.specs.declared.contents.Job.{Job}
-use Rattle.records.proofs.Clear.{Clear}
-use Rattle.records.proofs.Storing.{row-stored, range-stored, state-stored}
+use Rattle.records.proofs.Clear.{HasRoom, Clear}
 
 -- ---- counts
 
@@ -38,7 +36,7 @@ module _ (kind : ℕ) (counts : Counts) (room : HasRoom kind counts) where
   room-at wanted e = subst (λ (k : ℕ). HasRoom k counts) e room
 
   counts-fit : CountsFit counts → CountsFit (counted kind counts)
-  unfolding countOf kindOf
+  unfolding kindOf
   counts-fit fit = record {
     families = more-fits 4 kind (counts .families) 1 (fit .families) (room-at 4);
     ranges = more-fits 3 kind (counts .ranges) 64 (fit .ranges) (room-at 3);
@@ -47,11 +45,11 @@ module _ (kind : ℕ) (counts : Counts) (room : HasRoom kind counts) where
   }
 
   pub range-room : kind ≡ 3 → counts .ranges < 64
-  unfolding countOf kindOf
+  unfolding kindOf
   range-room e = room-at 3 e
 
   pub row-room : kind ≡ 1 → counts .rows < 1024
-  unfolding countOf kindOf
+  unfolding kindOf
   row-room e = room-at 1 e
 
 -- one more of its own kind, and of no other
@@ -63,23 +61,6 @@ none-more : (wanted kind n : ℕ) → (kind ≡ wanted → ⊥) → oneMore want
 unfolding oneMore
 none-more wanted kind n other = rw (ne-eqb kind wanted other)
 
--- ---- a record's content, as it is stored
-
-content-elim : (P : Job → Type 0) (kind : ℕ) (rest : List ℕ) (j : Job)
-    → (kind ≡ 1 → P (withRow j (longAt rest 1) (wordAt rest 9) (wordAt rest 13)))
-    → (kind ≡ 3 → P (withRange j (wordAt rest 1) (wordAt rest 5)))
-    → ((kind ≡ 1 → ⊥) → (kind ≡ 3 → ⊥) → P (withState j (stateAfter kind rest (j .state))))
-    → P (withContent kind rest j)
-content-elim P kind rest j row range state = by (eqb kind 1) (eqb kind 3) refl refl
-  where
-    by : (r g : Bool) → eqb kind 1 ≡ r → eqb kind 3 ≡ g → P (withContent kind rest j)
-    by true g e f = let is = eqb-true kind 1 e in subst P (row-stored kind rest rest j refl is refl refl refl) (row is)
-    by false true e f = let is = eqb-true kind 3 f in subst P (range-stored kind rest rest j refl is refl) (range is)
-    by false false e f =
-        let no-row = eqb-false kind 1 e in
-        let no-range = eqb-false kind 3 f in
-        subst P (state-stored kind rest rest j refl no-row no-range refl) (state no-row no-range)
-
 -- ---- the arrays' lengths
 
 pub record Sizes (j : Job) : Type 0 where
@@ -88,18 +69,13 @@ pub record Sizes (j : Job) : Type 0 where
   pub known : length (j .known) ≡ 1024
   pub values : length (j .values) ≡ 1024
 
-module _ (j : Job) (size : Sizes j) where
-  same-sizes : (i : Job) → length (i .bounds) ≡ length (j .bounds) → length (i .clocks) ≡ length (j .clocks)
-      → length (i .known) ≡ length (j .known) → length (i .values) ≡ length (j .values) → Sizes i
-  same-sizes i b c k v = record { bounds = b ∙ size .bounds; clocks = c ∙ size .clocks; known = k ∙ size .known; values = v ∙ size .values }
+bounds-size : (kind : ℕ) (rest : List ℕ) (n : ℕ) (bounds : List ℕ) → length (boundsAfter kind rest n bounds) ≡ length bounds
+unfolding boundsAfter
+bounds-size kind rest n bounds = cond-elim (λ (b : List ℕ). length b ≡ length bounds) (eqb kind 3) (λ _. simp length-set) (λ _. refl)
 
-  content-sizes : (kind : ℕ) (rest : List ℕ) → Sizes (withContent kind rest j)
-  content-sizes kind rest =
-      let n = j .counts .rows in
-      content-elim Sizes kind rest j
-      (λ _. same-sizes _ refl (length-set (j .clocks) n _) (length-set (j .known) n _) (length-set (j .values) n _))
-      (λ _. same-sizes _ (simp length-set) refl refl refl)
-      (λ _ _. same-sizes _ refl refl refl refl)
+column-size : (kind n entry : ℕ) (column : List ℕ) → length (columnAfter kind n entry column) ≡ length column
+unfolding columnAfter
+column-size kind n entry column = cond-elim (λ (c : List ℕ). length c ≡ length column) (eqb kind 1) (λ _. length-set column n entry) (λ _. refl)
 
 -- ---- rows
 
@@ -113,20 +89,19 @@ good-row kind clocks e h = not-false (clocksInRange clocks) (rw (eq-eqb kind 1 e
 
 module _ (kind : ℕ) (rest : List ℕ) (j : Job) (size : Sizes j) (room : HasRoom kind (j .counts)) where
   rows-after : (eqb kind 1 && not (clocksInRange (longAt rest 1))) ≡ false → rowsInRange (clocksOf j) ≡ true
-      → rowsInRange (take (oneMore 1 kind (j .counts .rows)) (withContent kind rest j .clocks)) ≡ true
-  rows-after good h = content-elim InRange kind rest j more (λ is. same (λ e. omega arith)) (λ other _. same other)
+      → rowsInRange (take (oneMore 1 kind (j .counts .rows)) (columnAfter kind (j .counts .rows) (longAt rest 1) (j .clocks))) ≡ true
+  unfolding columnAfter
+  rows-after good h = by (eqb kind 1) refl
     where
-      InRange : Job → Type 0
-      InRange i = rowsInRange (take (oneMore 1 kind (j .counts .rows)) (i .clocks)) ≡ true
+      n : ℕ
+      n = j .counts .rows
 
-      same : (kind ≡ 1 → ⊥) → InRange j
-      same other = rw (none-more 1 kind (j .counts .rows) other) h
-
-      more : kind ≡ 1 → InRange (withRow j (longAt rest 1) (wordAt rest 9) (wordAt rest 13))
-      more is =
-          let n = j .counts .rows in
-          rw (one-more 1 kind n is, take-suc-set (j .clocks) n (longAt rest 1) (omega (arith, size .clocks, row-room kind (j .counts) room is)))
+      by : (is : Bool) → eqb kind 1 ≡ is → rowsInRange (take (oneMore 1 kind n) (columnAfter kind n (longAt rest 1) (j .clocks))) ≡ true
+      by true e =
+          let is = eqb-true kind 1 e in
+          rw (e, one-more 1 kind n is, take-suc-set (j .clocks) n (longAt rest 1) (omega (arith, size .clocks, row-room kind (j .counts) room is)))
           (row-more (clocksOf j) (longAt rest 1) h (good-row kind (longAt rest 1) is good))
+      by false e = rw (e, none-more 1 kind n (eqb-false kind 1 e)) h
 
 -- ---- ranges
 
@@ -145,22 +120,21 @@ good-range kind first last is h = ltb-false last first (rw (eq-eqb kind 3 is) at
 
 module _ (kind : ℕ) (rest : List ℕ) (j : Job) (size : Sizes j) (room : HasRoom kind (j .counts)) where
   ranges-after : (eqb kind 3 && ltb (wordAt rest 5) (wordAt rest 1)) ≡ false → rangesPaired (rangesOf j) ≡ true
-      → rangesPaired (take (2 * oneMore 3 kind (j .counts .ranges)) (withContent kind rest j .bounds)) ≡ true
-  ranges-after good h = content-elim Paired kind rest j (λ is. same (λ e. omega arith)) more (λ _ other. same other)
+      → rangesPaired (take (2 * oneMore 3 kind (j .counts .ranges)) (boundsAfter kind rest (j .counts .ranges) (j .bounds))) ≡ true
+  unfolding boundsAfter
+  ranges-after good h = by (eqb kind 3) refl
     where
-      Paired : Job → Type 0
-      Paired i = rangesPaired (take (2 * oneMore 3 kind (j .counts .ranges)) (i .bounds)) ≡ true
+      n : ℕ
+      n = j .counts .ranges
 
-      same : (kind ≡ 3 → ⊥) → Paired j
-      same other = rw (none-more 3 kind (j .counts .ranges) other) h
-
-      more : kind ≡ 3 → Paired (withRange j (wordAt rest 1) (wordAt rest 5))
-      more is =
-          let n = j .counts .ranges in
+      by : (is : Bool) → eqb kind 3 ≡ is → rangesPaired (take (2 * oneMore 3 kind n) (boundsAfter kind rest n (j .bounds))) ≡ true
+      by true e =
+          let is = eqb-true kind 3 e in
           let two : 2 * oneMore 3 kind n ≡ suc (suc (2 * n)) = omega (arith, one-more 3 kind n is) in
-          let room : suc (2 * n) < length (j .bounds) = omega (arith, size .bounds, range-room kind (j .counts) room is) in
-          rw (two, add-one (2 * n), two-more (j .bounds) (2 * n) (wordAt rest 1) (wordAt rest 5) room)
+          let fits : suc (2 * n) < length (j .bounds) = omega (arith, size .bounds, range-room kind (j .counts) room is) in
+          rw (e, two, add-one (2 * n), two-more (j .bounds) (2 * n) (wordAt rest 1) (wordAt rest 5) fits)
           (pair-more (rangesOf j) (wordAt rest 1) (wordAt rest 5) h (good-range kind (wordAt rest 1) (wordAt rest 5) is good))
+      by false e = rw (e, none-more 3 kind n (eqb-false kind 3 e)) h
 
 -- ---- all of it
 
@@ -200,11 +174,15 @@ going-on rest j clear g =
     let kind = byteAt rest 0 in
     record {
       fit = counts-fit kind (j .counts) (clear .room) (g .fit);
-      size = same-sizes (withContent kind rest j) (content-sizes j (g .size) kind rest) _ refl refl refl refl;
+      size = record {
+        bounds = bounds-size kind rest (j .counts .ranges) (j .bounds) ∙ g .size .bounds;
+        clocks = column-size kind (j .counts .rows) (longAt rest 1) (j .clocks) ∙ g .size .clocks;
+        known = column-size kind (j .counts .rows) (wordAt rest 9) (j .known) ∙ g .size .known;
+        values = column-size kind (j .counts .rows) (wordAt rest 13) (j .values) ∙ g .size .values;
+      };
       rows = rows-after kind rest j (g .size) (clear .room) (clear .row) (g .rows);
       paired = ranges-after kind rest j (g .size) (clear .room) (clear .range) (g .paired);
-      made = content-elim (λ (i : Job). HostMade (i .state)) kind rest j (λ _. g .made) (λ _. g .made)
-          (λ _ _. made-after kind rest (j .state) (g .made));
+      made = made-after kind rest (j .state) (g .made);
     }
 
 -- its rows are a log, whose columns are as long as there are rows

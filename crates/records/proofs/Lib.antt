@@ -2,4 +2,4 @@ pub mod Clear
 pub mod Growth
 pub mod Reading
 pub mod Starting
-pub mod Storing
+pub mod KindTests

@@ -1,35 +1,51 @@
 -- What private functions cite; no public contract does.
-use Prim.Native.Nat.{ℕ, suc, _<_}
+use Prim.Native.Nat.{ℕ, suc}
 use mathlib.Core.Path.{_≡_}
-use mathlib.Core.Bool.{Bool, cond}
-use mathlib.Core.List.{List}
+use mathlib.Core.Bool.{cond}
+use mathlib.Core.List.{List, [], _∷_}
 use lib.Dec.{eqb}
 use lib.ListN.{length}
-use Rattle.registers.specs.Access.{freshOf, writeOf}
+use Rattle.log.specs.Log.{Log}
+use Rattle.state.specs.Sequencer.{stateFrom}
+use Rattle.state.specs.declared.sequencer.Sequencer.{Sequencer}
 use Rattle.state.specs.declared.state.State.{State}
-use Rattle.records.specs.Job.{countOf, emptyJob}
+use Rattle.records.specs.Job.{emptyJob, stateAfter, boundsAfter, columnAfter}
 use Rattle.records.specs.Reader.{readIn, Sound}
-use Rattle.records.specs.Records.{family, hostWrite, kindOf}
-use Rattle.records.specs.Refusals.{writeNumber, endsIdle, refusalOf}
+use Rattle.records.specs.Records.{kindOf, isOutOfOrder}
+use Rattle.records.specs.Refusals.{when, firstOf, isUnknown, isCutShort, isTooMany, refusalOf}
 use Rattle.records.specs.Started.{Started}
-use Rattle.records.specs.Words.{byteAt, wordAt}
+use Rattle.records.specs.Words.{byteAt, wordAt, longAt}
 use Rattle.records.specs.declared.contents.Counts.{Counts}
-use Rattle.records.specs.declared.reader.JobRead.{JobRead}
+use Rattle.records.specs.declared.jobs.JobRead.{JobRead}
+use Rattle.records.specs.declared.by_kind.StateRead.{StateRead}
 
--- room for one record more of this kind
-abbrev pub HasRoom : ℕ → Counts → Type 0
-HasRoom kind counts = countOf kind counts < kindOf kind .most
+-- the tests of the listing that every kind has, in its order
+abbrev pub shapeNumber : List ℕ → ℕ → Counts → ℕ
+shapeNumber rest byte counts =
+    let kind = kindOf counts byte in
+    firstOf (when (isUnknown rest kind) 21 ∷ when (isCutShort rest kind) 20 ∷ when (isOutOfOrder (counts .rank) kind) 22 ∷ when (isTooMany kind) 23 ∷ [])
 
--- what a record makes of the state
-unfoldable pub stateAfter : ℕ → List ℕ → State → State
-stateAfter kind rest s =
-    cond (eqb kind family) (freshOf (byteAt rest 1) .state)
-    (cond (eqb kind hostWrite) (writeOf s (record { 0 = wordAt rest 1 }) (wordAt rest 5) .state)
-    s)
+-- the number that the listing gives the record, whatever the state
+abbrev pub Tested : List ℕ → Counts → ℕ → Type 0
+Tested rest counts number = (s : State) → number ≡ refusalOf rest counts s
 
--- the answer of the listing under every state of which this was found
-abbrev pub Refuses : List ℕ → Counts → ℕ → Bool → ℕ → Type 0
-Refuses rest counts written idle answer = (s : State) → written ≡ writeNumber rest s → idle ≡ endsIdle rest s → answer ≡ refusalOf rest counts s
+-- a refused record stores nothing
+abbrev pub unlessRefused : {A : Type 0} → ℕ → A → A → A
+unlessRefused number stored before = cond (eqb number 0) stored before
+
+pub record RangeRead (rest : List ℕ) (counts : Counts) (old new : List ℕ) (number : ℕ) : Type 0 where
+  pub tested : Tested rest counts number
+  pub bounds : new ≡ unlessRefused number (boundsAfter (byteAt rest 0) rest (counts .ranges) old) old
+
+pub record RowRead (rest : List ℕ) (counts : Counts) (old new : Log) (number : ℕ) : Type 0 where
+  pub tested : Tested rest counts number
+  pub clocks : new .clocks ≡ unlessRefused number (columnAfter (byteAt rest 0) (counts .rows) (longAt rest 1) (old .clocks)) (old .clocks)
+  pub known : new .known ≡ unlessRefused number (columnAfter (byteAt rest 0) (counts .rows) (wordAt rest 9) (old .known)) (old .known)
+  pub values : new .values ≡ unlessRefused number (columnAfter (byteAt rest 0) (counts .rows) (wordAt rest 13) (old .values)) (old .values)
+
+pub record StateStored (rest : List ℕ) (counts : Counts) (s : State) (code marks : List ℕ) (answer : StateRead) : Type 0 where
+  pub tested : answer .number ≡ refusalOf rest counts s
+  pub state : stateFrom (answer .sequencer) code marks ≡ unlessRefused (answer .number) (stateAfter (byteAt rest 0) rest s) s
 
 -- what the loop over the records answers
 pub record RecordsRead (bytes : List ℕ) (answer : JobRead) : Type 0 where

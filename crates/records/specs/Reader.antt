@@ -12,7 +12,7 @@ use Rattle.records.specs.Refusals.{refusalOf}
 use Rattle.records.specs.Started.{Started}
 use Rattle.records.specs.Words.{byteAt}
 use Rattle.records.specs.declared.contents.Job.{Job}
-use Rattle.records.specs.declared.reader.JobRead.{JobRead}
+use Rattle.records.specs.declared.jobs.JobRead.{JobRead}
 
 -- a job may have so many bytes
 abbrev pub maxBytes : ℕ
@@ -28,7 +28,7 @@ readIn zero bytes at j = readAt 21 at j
 readIn (suc left) bytes at j =
     let rest = drop at bytes in
     let number = refusalOf rest (j .counts) (j .state) in
-    let later = readIn left bytes (at + (1 + kindOf (byteAt rest 0) .body)) (afterRecord rest j) in
+    let later = readIn left bytes (at + (1 + kindOf (j .counts) (byteAt rest 0) .body)) (afterRecord rest j) in
     cond (eqb number 0) (cond (eqb (byteAt rest 0) end) (readAt 0 at j) later) (readAt number at j)
 
 -- 31 over so many bytes, at offset 0, first; then the records, each of which takes a byte at least

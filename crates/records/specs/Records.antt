@@ -5,6 +5,7 @@ use mathlib.Core.List.{List, [], _∷_}
 use lib.Dec.{ltb, eqb}
 use Rattle.log.specs.Validity.{maxRows}
 use Rattle.script.specs.Input.{maxRanges}
+use Rattle.records.specs.declared.contents.Counts.{Counts}
 use Rattle.records.specs.declared.kinds.Kind.{Kind}
 
 abbrev pub family : ℕ
@@ -31,28 +32,29 @@ pub record TableRow : Type 0 where
   pub byte : ℕ
   pub kind : Kind
 
-abbrev pub is : ℕ → ℕ → ℕ → ℕ → TableRow
-is byte rank body most = record { byte = byte; kind = record { rank = rank; body = body; most = most } }
+abbrev pub is : ℕ → ℕ → ℕ → ℕ → ℕ → TableRow
+is byte rank body most read = record { byte = byte; kind = record { rank = rank; body = body; most = most; read = read } }
 
--- each kind: its byte, its place in the order, the length of its body, and how many of it a job may have
-abbrev pub kinds : List TableRow
-kinds =
-    is family 1 1 1
-    ∷ is range 2 8 maxRanges
-    ∷ is hostWrite 3 8 maxWrites
-    ∷ is row 4 16 maxRows
-    ∷ is end 5 0 1
+-- each kind, after these records: its byte, its place in the order, the length of its body, how many of it a job may have, and how many
+-- were read; what follows an end is no record
+abbrev pub kinds : Counts → List TableRow
+kinds counts =
+    is family 1 1 1 (counts .families)
+    ∷ is range 2 8 maxRanges (counts .ranges)
+    ∷ is hostWrite 3 8 maxWrites (counts .writes)
+    ∷ is row 4 16 maxRows (counts .rows)
+    ∷ is end 5 0 1 0
     ∷ []
 
 -- a byte that is not in the table has no place in the order
 abbrev pub lookUp : ℕ → List TableRow → Kind
-lookUp byte [] = record { rank = 0; body = 0; most = 0 }
+lookUp byte [] = record { rank = 0; body = 0; most = 0; read = 0 }
 lookUp byte (entry ∷ table) = cond (eqb byte (entry .byte)) (entry .kind) (lookUp byte table)
 
-unfoldable pub kindOf : ℕ → Kind
-kindOf byte = lookUp byte kinds
+unfoldable pub kindOf : Counts → ℕ → Kind
+kindOf counts byte = lookUp byte (kinds counts)
 
 -- kinds come in just that order: the first record is of the first rank, and no record's rank is below the last one's; before the
 -- first record the last rank is 0
-unfoldable pub isOutOfOrder : ℕ → ℕ → Bool
-isOutOfOrder last rank = cond (eqb last 0) (not (eqb rank 1)) (ltb rank last)
+unfoldable pub isOutOfOrder : ℕ → Kind → Bool
+isOutOfOrder last kind = cond (eqb last 0) (not (eqb (kind .rank) 1)) (ltb (kind .rank) last)

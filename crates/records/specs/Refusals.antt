@@ -11,22 +11,22 @@ use Rattle.registers.specs.Access.{writeOf}
 use Rattle.execution.specs.Execution.{someSlotExecutes}
 use Rattle.registers.specs.Promises.{outcomeNumber}
 use Rattle.state.specs.declared.state.State.{State}
-use Rattle.records.specs.Job.{countOf}
 use Rattle.records.specs.Records.{family, range, hostWrite, row, end, kindOf, isOutOfOrder}
 use Rattle.records.specs.Words.{byteAt, wordAt, longAt}
 use Rattle.records.specs.declared.contents.Counts.{Counts}
+use Rattle.records.specs.declared.kinds.Kind.{Kind}
 
 -- unknown kind or input ended without 00
-unfoldable pub isUnknown : List ℕ → Bool
-isUnknown rest = eqb (length rest) 0 || eqb (kindOf (byteAt rest 0) .rank) 0
+unfoldable pub isUnknown : List ℕ → Kind → Bool
+isUnknown rest kind = eqb (length rest) 0 || eqb (kind .rank) 0
 
 -- body cut short
-unfoldable pub isCutShort : List ℕ → Bool
-isCutShort rest = ltb (length rest) (1 + kindOf (byteAt rest 0) .body)
+unfoldable pub isCutShort : List ℕ → Kind → Bool
+isCutShort rest kind = ltb (length rest) (1 + kind .body)
 
 -- too many of one kind
-unfoldable pub isTooMany : ℕ → Counts → Bool
-isTooMany kind counts = leb (kindOf kind .most) (countOf kind counts)
+unfoldable pub isTooMany : Kind → Bool
+isTooMany kind = leb (kind .most) (kind .read)
 
 -- bad family
 unfoldable pub isBadFamily : List ℕ → Bool
@@ -68,10 +68,11 @@ firstOf (test ∷ later) = cond (test .fails) (test .number) (firstOf later)
 -- 01's listing, in its order
 abbrev pub listing : List ℕ → Counts → State → List Test
 listing rest counts s =
-    when (isUnknown rest) 21
-    ∷ when (isCutShort rest) 20
-    ∷ when (isOutOfOrder (counts .rank) (kindOf (byteAt rest 0) .rank)) 22
-    ∷ when (isTooMany (byteAt rest 0) counts) 23
+    let kind = kindOf counts (byteAt rest 0) in
+    when (isUnknown rest kind) 21
+    ∷ when (isCutShort rest kind) 20
+    ∷ when (isOutOfOrder (counts .rank) kind) 22
+    ∷ when (isTooMany kind) 23
     ∷ when (isBadFamily rest) 25
     ∷ when (isBadRange rest) 26
     ∷ when (eqb (writeNumber rest s) 27) 27

@@ -2,6 +2,7 @@
 ghost use mathlib.Core.Path.{_≡_};
 ghost use Prim.Native.Nat.{_≤_};
 ghost use Rattle.records.specs.Records.{kindOf, isOutOfOrder};
+use crate::contents::Counts;
 
 pub(crate) const FAMILY: u8 = 4;
 
@@ -16,40 +17,50 @@ pub(crate) const END: u8 = 0;
 // The most host writes of a job.
 const MAX_WRITES: usize = 512;
 
-// What is fixed for a kind.
+// What is known of a kind, after so many records.
 pub struct Kind {
     // its place in the order, from 1; 0 for a kind that there is not
     pub rank: u8,
     // how many bytes follow the byte of kind
     pub body: usize,
-    // how many of them a job may have
+    // how many of them a job may have, and how many were read
     pub most: usize,
+    pub read: usize,
 }
 
-fn entry(rank: u8, body: usize, most: usize) -> Kind
-    ensures { λ r. ⌜ r ≡ record { rank = rank; body = body; most = most } ⌝ }
+fn entry(rank: u8, body: usize, most: usize, read: usize) -> Kind
+    ensures { λ r. ⌜ r ≡ record { rank = rank; body = body; most = most; read = read } ⌝ }
 {
-    Kind { rank, body, most }
+    Kind {
+        rank,
+        body,
+        most,
+        read,
+    }
 }
 
 // The table of kinds.
-pub(crate) fn kind_of(byte: u8) -> Kind
-    ensures { λ r. ⌜ r ≡ kindOf byte ⌝ }
+pub(crate) fn kind_of(byte: u8, counts: Counts) -> Kind
+    ensures { λ r. ⌜ r ≡ kindOf counts byte ⌝ }
     ensures { λ r. ⌜ r .body ≤ 16 ⌝ }
 {
     match byte {
-        FAMILY => entry(1, 1, 1),
-        RANGE => entry(2, 8, script::MAX_RANGES),
-        HOST_WRITE => entry(3, 8, MAX_WRITES),
-        ROW => entry(4, 16, log::MAX_ROWS),
-        END => entry(5, 0, 1),
-        _ => entry(0, 0, 0),
+        FAMILY => entry(1, 1, 1, counts.families),
+        RANGE => entry(2, 8, script::MAX_RANGES, counts.ranges),
+        HOST_WRITE => entry(3, 8, MAX_WRITES, counts.writes),
+        ROW => entry(4, 16, log::MAX_ROWS, counts.rows),
+        END => entry(5, 0, 1, 0),
+        _ => entry(0, 0, 0, 0),
     }
 }
 
 // Ranks never fall from one record to the next, and the first record is of the first rank.
-pub(crate) fn is_out_of_order(last: u8, rank: u8) -> bool
-    ensures { λ r. ⌜ r ≡ isOutOfOrder last rank ⌝ }
+pub(crate) fn is_out_of_order(last: u8, kind: Kind) -> bool
+    ensures { λ r. ⌜ r ≡ isOutOfOrder last kind ⌝ }
 {
-    if last == 0 { rank != 1 } else { rank < last }
+    if last == 0 {
+        kind.rank != 1
+    } else {
+        kind.rank < last
+    }
 }

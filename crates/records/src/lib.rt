@@ -1,11 +1,12 @@
 // The records of a job: what they may be, in which order they come, and what they say together.
+mod by_kind;
 mod contents;
+mod jobs;
 mod kinds;
 mod listing;
-mod reader;
 mod words;
 
 pub use contents::Counts;
 pub use contents::Job;
-pub use reader::JobRead;
-pub use reader::read_job;
+pub use jobs::JobRead;
+pub use jobs::read_job;

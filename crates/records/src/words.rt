@@ -1,8 +1,10 @@
-// The numbers in a record: little-endian, and 0 where the bytes have ended.
+// The numbers in a record: little-endian.
 ghost use mathlib.Core.Path.{_≡_};
-ghost use Prim.Native.Nat.{_+_, _*_, _<_};
+ghost use Prim.Native.Nat.{_+_, _*_, _≤_};
+ghost use lib.ListN.{length};
 ghost use Rattle.records.specs.Words.{byteAt, wordAt, longAt};
 
+// A byte, and 0 where the bytes have ended.
 pub(crate) fn byte_at(rest: &[u8], i: usize) -> u8
     ensures { λ r. ⌜ r ≡ byteAt (now (rest .entry)) i ⌝ }
 {
@@ -15,16 +17,11 @@ fn word_of(a: u8, b: u8, c: u8, d: u8) -> u32
     a as u32 + 256 * (b as u32) + 65536 * (c as u32) + 16777216 * (d as u32)
 }
 
-pub(crate) fn word_at(rest: &[u8], i: usize) -> u32
-    requires { ⌜ i < 32 ⌝ }
+pub(crate) fn word_in(rest: &[u8], i: usize) -> u32
+    requires { ⌜ i + 4 ≤ length (now rest) ⌝ }
     ensures { λ r. ⌜ r ≡ wordAt (now (rest .entry)) i ⌝ }
 {
-    word_of(
-        byte_at(rest, i),
-        byte_at(rest, i + 1),
-        byte_at(rest, i + 2),
-        byte_at(rest, i + 3),
-    )
+    word_of(rest[i], rest[i + 1], rest[i + 2], rest[i + 3])
 }
 
 fn long_of(low: u32, high: u32) -> u64
@@ -33,9 +30,9 @@ fn long_of(low: u32, high: u32) -> u64
     low as u64 + 4294967296 * (high as u64)
 }
 
-pub(crate) fn long_at(rest: &[u8], i: usize) -> u64
-    requires { ⌜ i < 16 ⌝ }
+pub(crate) fn long_in(rest: &[u8], i: usize) -> u64
+    requires { ⌜ i + 8 ≤ length (now rest) ⌝ }
     ensures { λ r. ⌜ r ≡ longAt (now (rest .entry)) i ⌝ }
 {
-    long_of(word_at(rest, i), word_at(rest, i + 4))
+    long_of(word_in(rest, i), word_in(rest, i + 4))
 }

@@ -15,7 +15,8 @@ use Rattle.state.specs.declared.state.State.{State}
 use Rattle.registers.specs.Access.{freshOf, afterWrite, isAbort, isTaken, writeOf, readingOf, readOf}
 use Rattle.registers.specs.Code.{afterUpload}
 use Rattle.execution.specs.Execution.{someSlotExecutes}
-use Rattle.registers.specs.Promises.{outcomeNumber, readingNumber, freshRefusal, writeRefusal, isReadable, readRefusal, keptBits, Unmoved, Spares, Stops, Begins, HostWrites, HostReads}
+use Rattle.registers.specs.Promises.{outcomeNumber, readingNumber, freshRefusal, writeRefusal, isReadable, readRefusal, keptBits}
+use Rattle.registers.specs.Promises.{Unmoved, Spares, Stops, Begins, WritesInPlace, HostWrites, HostReads}
 use Rattle.registers.specs.Register.{triggerAt, registerAt, isWritable}
 use Rattle.registers.specs.Trigger.{isStart, slotNamed, aborted, afterTrigger}
 use Rattle.registers.proofs.BackLaws.{Roomy, word-back}
@@ -178,6 +179,9 @@ module _ (s : State) (address : MmioAddress) (word : ℕ) where
   write-events : knownFamily (s .family) ≡ true → address .0 ≡ 0x001578 → outcomeNumber (writeOf s address word .outcome) ≡ 27
   unfolding writeOf
   write-events u h = simp (u, events-here h)
+
+  pub in-place : {t : Access} → t ≡ writeOf s address word → WritesInPlace s address word t
+  in-place e = let law = subst Law (sym e) write-law in record { answered = e; numbered = law .numbered; unmoved = law .unmoved }
 
   pub host-writes : Roomy s → word < 2 ^ 32 → {t : Access} → t ≡ writeOf s address word → HostWrites s address word t
   host-writes roomy small e =

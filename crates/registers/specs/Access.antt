@@ -1,13 +1,16 @@
 -- A fresh state, and the host's writes and reads (01, "Host registers"; 004, "MMIO registers").
 use Prim.Native.Nat.{ℕ, _+_, _/_, _%_}
 use mathlib.Core.Bool.{Bool, false, cond, not, _&&_, _||_}
+use mathlib.Core.List.{List}
 use lib.Dec.{eqb}
 use lib.ListN.{replicate}
 use Rattle.families.specs.Family.{knownFamily}
 use Rattle.isa.specs.declared.addresses.MmioAddress.{MmioAddress}
 use Rattle.flags.specs.Flags.{flagsWord0, flagsWord1, flagsFromWords}
 use Rattle.state.specs.Slot.{blankSlot, withSlot}
+use Rattle.state.specs.Sequencer.{stateFrom}
 use Rattle.flags.specs.declared.flags.Flags.{Flags}
+use Rattle.state.specs.declared.sequencer.Sequencer.{Sequencer}
 use Rattle.state.specs.declared.slots.SlotName.{SlotName}
 use Rattle.state.specs.declared.state.State.{State}
 use Rattle.registers.specs.Code.{afterUpload, codeWord}
@@ -19,6 +22,7 @@ use Rattle.registers.specs.Trigger.{isStart, afterTrigger}
 use Rattle.registers.specs.declared.access.Access.{Access}
 use Rattle.registers.specs.declared.access.Outcome.{Outcome}
 use Rattle.registers.specs.declared.access.Reading.{Reading}
+use Rattle.registers.specs.declared.access.Written.{Written}
 use Rattle.refusals.specs.declared.refusals.Inaccessible.{Inaccessible}
 use Rattle.registers.specs.declared.registers.Register.{Register}
 
@@ -28,6 +32,10 @@ done s = record { state = s; outcome = Outcome.Done }
 -- a refusal leaves the state as it is
 abbrev pub refused : State → Inaccessible → Access
 refused s why = record { state = s; outcome = Outcome.Refused why }
+
+-- a write whose code was stored in place, as an access
+abbrev pub accessOf : Written → List ℕ → List ℕ → Access
+accessOf w code marks = record { state = stateFrom (w .sequencer) code marks; outcome = w .outcome }
 
 -- every register 0, nothing uploaded, both slots blank
 unfoldable pub blankState : ℕ → State

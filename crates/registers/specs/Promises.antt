@@ -97,6 +97,12 @@ pub record Begins (family : ℕ) (answer : Access) : Type 0 where
   pub answered : answer ≡ freshOf family
   pub numbered : outcomeNumber (answer .outcome) ≡ freshRefusal family
 
+-- a write whose code is stored in place
+pub record WritesInPlace (s : State) (address : MmioAddress) (word : ℕ) (answer : Access) : Type 0 where
+  pub answered : answer ≡ writeOf s address word
+  pub numbered : outcomeNumber (answer .outcome) ≡ writeRefusal s address word
+  pub unmoved : Unmoved s (answer .state) (answer .outcome)
+
 pub record HostWrites (s : State) (address : MmioAddress) (word : ℕ) (answer : Access) : Type 0 where
   pub answered : answer ≡ writeOf s address word
   pub numbered : outcomeNumber (answer .outcome) ≡ writeRefusal s address word

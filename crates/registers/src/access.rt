@@ -1,5 +1,6 @@
 // What the host is answered.
 use refusals::Inaccessible;
+use state::Sequencer;
 use state::State;
 
 pub enum Outcome {
@@ -10,6 +11,12 @@ pub enum Outcome {
 // The state after an access, with its outcome.
 pub struct Access {
     pub state: State,
+    pub outcome: Outcome,
+}
+
+// The sequencer after a write whose code is stored in place, with its outcome.
+pub struct Written {
+    pub sequencer: Sequencer,
     pub outcome: Outcome,
 }
 

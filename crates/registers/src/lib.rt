@@ -5,4 +5,5 @@ mod registers;
 pub use access::Access;
 pub use access::Outcome;
 pub use access::Reading;
+pub use access::Written;
 pub use registers::Register;

@@ -17,7 +17,7 @@ use Rattle.state.specs.declared.state.State.{State}
 use Rattle.records.specs.Job.{knownOf}
 use Rattle.records.specs.Reader.{readOf}
 use Rattle.records.specs.declared.contents.Job.{Job}
-use Rattle.records.specs.declared.reader.JobRead.{JobRead}
+use Rattle.records.specs.declared.jobs.JobRead.{JobRead}
 use Rattle.report.specs.Lines.{refusedLine, familyLine, faultLine, passLine, writeLines, rowLines, endLine, statusLine}
 use Rattle.report.specs.Script.{verdictOf, jobRun, stepRun, statusOf}
 

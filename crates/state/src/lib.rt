@@ -1,7 +1,11 @@
 // The state that host and scripts share, and its two slots.
+mod sequencer;
 mod slots;
 mod state;
 
+pub use sequencer::Sequencer;
+pub use sequencer::sequencer_of;
+pub use sequencer::state_from;
 pub use slots::Mode;
 pub use slots::Slot;
 pub use slots::SlotName;

@@ -1,14 +1,11 @@
 -- Assumes nothing.
-use mathlib.Core.Path.{sym, _∙_}
+use mathlib.Core.Path.{_∙_}
 use borrow.Author.Needs.{needs}
 use Rattle.execution.proofs.executes.Statement.{statement}
 use Rattle.execution.proofs.executes.Tie as tie
 
 returns : tie.Need-returns
-returns c = simp (sym (c .before .before .has-slot .ensures) ∙ c .before .if1 .taken, c .is-idle .ensures, c .before .before .before .slot-of .ensures)
-
-returns-2 : tie.Need-returns-2
-returns-2 c = c .if1 .left ∙ simp (sym (c .before .has-slot .ensures) ∙ c .if1 .left)
+returns c = c .is-executing .ensures ∙ simp (c .before .slot-of .ensures)
 
 pub executes-spec : {M : Type 1} → statement M
-executes-spec = tie.close (tie.spec (λ c κs. search needs) (λ c κs. search needs) (λ c κs. search needs) returns returns-2)
+executes-spec = tie.close (tie.spec (λ c κs. search needs) (λ c κs. search needs) returns)

@@ -1,5 +1,6 @@
 -- Assumes nothing.
 use mathlib.Core.Path.{_∙_}
+use Rattle.registers.specs.Access.{blankState}
 use Rattle.registers.proofs.AccessLaws.{begins}
 use Rattle.fresh.proofs.Outcomes.{fresh-as}
 use borrow.Author.Needs.{needs}
@@ -7,7 +8,10 @@ use Rattle.fresh.proofs.fresh_state.Statement.{statement}
 use Rattle.fresh.proofs.fresh_state.Tie as tie
 
 returns : tie.Need-returns
-returns c = begins _ (simp (c .before .blank-state .ensures, c .fresh-outcome .ensures) (fresh-as _))
+unfolding blankState
+returns c =
+    let s = c .before in
+    begins _ (simp (s .state-from .ensures, s .before .fresh-sequencer .ensures, c .fresh-outcome .ensures) (fresh-as _))
 
 pub fresh-state-spec : {M : Type 1} → statement M
-fresh-state-spec = tie.close (tie.spec (λ c κs. search needs) (λ c κs. search needs) returns)
+fresh-state-spec = tie.close (tie.spec (λ c κs. search needs) (λ c κs. search needs) (λ c κs. search needs) returns)

@@ -1,28 +1,34 @@
 -- Assumes nothing.
-use mathlib.Core.Path.{sym, _∙_}
-use Rattle.registers.proofs.RegisterLaws.{register-in-room}
+use mathlib.Core.Path.{ap, _∙_}
 use Rattle.registers.proofs.AccessLaws.{host-writes}
-use Rattle.host.proofs.Outcomes.{write-done, write-refused}
+use Rattle.registers.proofs.BackLaws.{Roomy}
+use Rattle.registers.specs.Access.{writeOf}
+use Rattle.state.specs.Sequencer.{stateFrom}
+use Rattle.state.specs.declared.sequencer.Sequencer.{Sequencer}
 use borrow.Author.Needs.{needs}
 use Rattle.host.proofs.access.write_register.Statement.{statement}
 use Rattle.host.proofs.access.write_register.Tie as tie
 
-after-write-requires : tie.Need-after-write-requires
-after-write-requires c κs = rw (c .before .before .before .before .before .register-at .ensures) (register-in-room _ _)
+-- up to where the write was made, to where the state was taken apart, and to the start
+abbrev written : tie.After-state-from → tie.After-write
+written c = c .before .before
+
+abbrev taken-apart : tie.After-write → tie.After-sequencer-of
+taken-apart w = w .before .before .before
+
+abbrev start : tie.After-sequencer-of → tie.Start
+start q = q .before .before .before
+
+roomy : (b : tie.Start) → Roomy (b .args .state)
+roomy b = search (needs, b .good .0 .1)
 
 returns : tie.Need-returns
 returns c =
-    let o = c .before .before .before in
-    let at = o .before .before .before in
-    let told = rw (at .register-at .ensures, o .before .is-taken .ensures, o .before .before .some-slot-executes .ensures) at (sym (o .write-outcome .ensures) ∙ c .before .enum-told .given .1) in
-    host-writes _ _ _ (search (needs, at .before .good .0 .1)) (search needs) (rw (c .after-write .ensures, at .register-at .ensures, c .before .enum-told .given .1) (write-done _ _ _ told))
-
-returns-2 : tie.Need-returns-2
-returns-2 c =
-    let o = c .before .before in
-    let at = o .before .before .before in
-    let told = rw (at .register-at .ensures, o .before .is-taken .ensures, o .before .before .some-slot-executes .ensures) at (sym (o .write-outcome .ensures) ∙ c .enum-told2 .given .1) in
-    host-writes _ _ _ (search (needs, at .before .good .0 .1)) (search needs) (rw (c .enum-told2 .given .1) (write-refused _ _ _ told))
+    let w = written c in
+    let q = taken-apart w in
+    let a = start q .args in
+    let same = ap (λ (x : Sequencer). writeOf (stateFrom x (a .state .code) (a .state .marks)) (a .address) (a .word)) (q .sequencer-of .ensures) in
+    host-writes _ _ _ (roomy (start q)) (search needs) (rw (c .state-from .ensures) (w .write .ensures .answered ∙ same))
 
 pub write-register-spec : {M : Type 1} → statement M
-write-register-spec = tie.close (tie.spec (λ c κs. search needs) (λ c κs. search needs) (λ c κs. search needs) (λ c κs. search needs) (λ c. search needs) after-write-requires (λ c. search needs) returns returns-2)
+write-register-spec = tie.close (tie.spec (λ c κs. search needs) (λ c κs. search needs) (λ c κs. search needs) returns)

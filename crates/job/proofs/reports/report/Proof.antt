@@ -9,7 +9,7 @@ use lib.Seq.{take-at}
 use borrow.Author.Tests.{eq-eqb, ne-eqb}
 use Rattle.text.specs.Put.{Stored}
 use Rattle.records.specs.Reader.{readOf}
-use Rattle.records.specs.declared.reader.JobRead.{JobRead}
+use Rattle.records.specs.declared.jobs.JobRead.{JobRead}
 use Rattle.report.specs.Lines.{refusedLine}
 use Rattle.report.specs.Report.{runLines, jobLines, reportOf, stepLines, Reports}
 use Rattle.job.specs.Inside.{ReadyToRun}

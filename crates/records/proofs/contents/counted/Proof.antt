@@ -3,8 +3,14 @@ use borrow.Author.Needs.{needs}
 use Rattle.records.proofs.contents.counted.Statement.{statement}
 use Rattle.records.proofs.contents.counted.Tie as tie
 
+-- up to the row of the table
+abbrev looked-up : tie.After-one-more4 → tie.After-kind-of
+looked-up c = c .before .before .before .before
+
 returns : tie.Need-returns
-returns c = simp (c .before .before .before .before .kind-of .ensures .0, c .before .before .before .one-more .ensures, c .before .before .one-more2 .ensures, c .before .one-more3 .ensures, c .one-more4 .ensures)
+returns c =
+    let ranges = c .before .before in
+    simp (looked-up c .kind-of .ensures .0, ranges .before .one-more .ensures, ranges .one-more2 .ensures, c .before .one-more3 .ensures, c .one-more4 .ensures)
 
 pub counted-spec : {M : Type 1} → statement M
 counted-spec =

@@ -8,7 +8,7 @@ use borrow.Author.Needs.{needs}
 use Rattle.records.proofs.kinds.kind_of.Statement.{statement}
 use Rattle.records.proofs.kinds.kind_of.Tie as tie
 
-small : {k : Kind} {rank body most : ℕ} → k ≡ record { rank = rank; body = body; most = most } → body ≤ 16 → k .body ≤ 16
+small : {k : Kind} {rank body most read : ℕ} → k ≡ record { rank = rank; body = body; most = most; read = read } → body ≤ 16 → k .body ≤ 16
 small e h = subst (λ (n : ℕ). n ≤ 16) (sym (ap (λ (k : Kind). k .body) e)) h
 
 returns : tie.Need-returns

@@ -11,7 +11,7 @@ returns c = simp (eq-eqb _ _ (c .if1 .taken))
 
 returns-2 : tie.Need-returns-2
 unfolding isUnknown
-returns-2 c = simp (ne-eqb _ _ (c .before .before .before .if1 .left), c .before .kind-of .ensures .0, c .before .before .byte-at .ensures)
+returns-2 c = simp (ne-eqb _ _ (c .before .if1 .left))
 
 pub is-unknown-spec : {M : Type 1} → statement M
-is-unknown-spec = tie.close (tie.spec (λ c κs. search needs) (λ c κs. search needs) returns returns-2)
+is-unknown-spec = tie.close (tie.spec returns returns-2)
