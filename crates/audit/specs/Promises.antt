@@ -2,17 +2,18 @@
 use Prim.Native.Nat.{ℕ}
 use mathlib.Core.Path.{_≡_}
 use mathlib.Core.List.{List}
+use Rattle.script.specs.Script.{Script}
 use Rattle.verdict.specs.Auditor.{verdictNumber, auditOf, auditNumber}
 use Rattle.verdict.specs.Demand3.{Demand3}
 use Rattle.verdict.specs.Starred.{Starred}
 use Rattle.verdict.specs.Witness.{Witnessed}
 use Rattle.verdict.specs.declared.verdicts.Verdict.{Verdict}
 
-pub record Audits (family : ℕ) (code marks : List ℕ) (entry : ℕ) (ranges : List ℕ) (answer : Verdict) : Type 0 where
-  pub answered : answer ≡ auditOf family code marks entry ranges
-  pub numbered : verdictNumber answer ≡ auditNumber family code marks entry ranges
-  pub demand3 : Demand3 family code marks entry ranges answer
+pub record Audits (script : Script) (ranges : List ℕ) (answer : Verdict) : Type 0 where
+  pub answered : answer ≡ auditOf script ranges
+  pub numbered : verdictNumber answer ≡ auditNumber script ranges
+  pub demand3 : Demand3 script ranges answer
   -- a log that the script itself dictates shows it, from every start
-  pub witnessed : Witnessed family code marks entry ranges answer
+  pub witnessed : Witnessed script ranges answer
   -- of the definition, and so of every answer
   pub starred : Starred

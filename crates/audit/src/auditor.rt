@@ -1,10 +1,10 @@
 // The auditor: reads a script from its entry to the first exit and tells the first fault.
 ghost use mathlib.Core.Path.{_≡_};
 ghost use mathlib.Core.Bool.{true};
-ghost use Rattle.families.specs.Family.{codeSize};
 ghost use Rattle.refusals.specs.Number.{unreadableNumber, faultNumber};
+ghost use Rattle.script.specs.Script.{scriptOf};
 ghost use Rattle.script.specs.Input.{inputFits};
-ghost use Rattle.verdict.specs.Auditor.{faultOf, knowNothing, verdictIn};
+ghost use Rattle.verdict.specs.Auditor.{faultOf, walkOf};
 ghost use Rattle.audit.specs.Promises.{Audits};
 use crate::assess::judge;
 use crate::assess::know_next;
@@ -26,7 +26,7 @@ pub fn audit<'a>(
     entry: CodeAddress,
     ranges: &'a [u32],
 ) -> Verdict
-    ensures { λ r. ⌜ Audits family (now (code .entry)) (now (marks .entry)) (entry .0) (now (ranges .entry)) r ⌝ }
+    ensures { λ r. ⌜ Audits (scriptOf family (now (code .entry)) (now (marks .entry)) (entry .0)) (now (ranges .entry)) r ⌝ }
 {
     if !script_fits(family, code, marks, entry) {
         return Verdict::Fault(Fault::Input, CodeAddress(0));
@@ -59,8 +59,8 @@ fn walk<'a>(
     entry: CodeAddress,
     ranges: &'a [u32],
 ) -> Verdict
-    requires { ⌜ inputFits family (now code) (now marks) (entry .0) (now ranges) ≡ true ⌝ }
-    ensures { λ r. ⌜ r ≡ verdictIn (codeSize family) family (now (code .entry)) (now (marks .entry)) (now (ranges .entry)) (entry .0) knowNothing ⌝ }
+    requires { ⌜ inputFits (scriptOf family (now code) (now marks) (entry .0)) (now ranges) ≡ true ⌝ }
+    ensures { λ r. ⌜ r ≡ walkOf (scriptOf family (now (code .entry)) (now (marks .entry)) (entry .0)) (now (ranges .entry)) ⌝ }
 {
     let mut at = entry.0;
     let mut known = know_nothing();

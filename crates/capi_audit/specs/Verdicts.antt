@@ -3,7 +3,7 @@ use Prim.Native.Nat.{ℕ}
 use mathlib.Core.Path.{_≡_}
 use mathlib.Core.List.{List}
 use Rattle.refusals.specs.Number.{faultNumber}
-use Rattle.isa.specs.declared.addresses.CodeAddress.{CodeAddress}
+use Rattle.script.specs.Script.{Script}
 use Rattle.verdict.specs.Auditor.{auditOf}
 use Rattle.audit.specs.Promises.{Audits}
 use Rattle.verdict.specs.declared.verdicts.Verdict.{Verdict}
@@ -14,6 +14,6 @@ auditReply (Verdict.Pass place count writes clocks) = record { verdict = 0; plac
 auditReply (Verdict.Fault fault place) = record { verdict = faultNumber fault; place = place .0; count = 0; writes = 0; clocks = 0 }
 
 -- the reply tells the auditor's verdict, of which all holds that the auditor promises, demand 3 too
-pub record HwsqAudit (family : ℕ) (code marks : List ℕ) (entry : ℕ) (ranges : List ℕ) (reply : AuditReply) : Type 0 where
-  pub answered : reply ≡ auditReply (auditOf family code marks entry ranges)
-  pub audits : Audits family code marks entry ranges (auditOf family code marks entry ranges)
+pub record HwsqAudit (script : Script) (ranges : List ℕ) (reply : AuditReply) : Type 0 where
+  pub answered : reply ≡ auditReply (auditOf script ranges)
+  pub audits : Audits script ranges (auditOf script ranges)

@@ -1,5 +1,6 @@
 // The auditor, its verdict as numbers.
 ghost use mathlib.Core.Path.{_≡_};
+ghost use Rattle.script.specs.Script.{scriptOf};
 ghost use Rattle.capi_audit.specs.Verdicts.{auditReply, HwsqAudit};
 use isa::CodeAddress;
 use verdict::Verdict;
@@ -25,7 +26,7 @@ pub extern "C" fn hwsq_audit<'a>(
     entry: usize,
     ranges: &'a [u32],
 ) -> AuditReply
-    ensures { λ r. ⌜ HwsqAudit family (now (code .entry)) (now (marks .entry)) entry (now (ranges .entry)) r ⌝ }
+    ensures { λ r. ⌜ HwsqAudit (scriptOf family (now (code .entry)) (now (marks .entry)) entry) (now (ranges .entry)) r ⌝ }
 {
     audit_reply(audit::audit(family, code, marks, CodeAddress(entry), ranges))
 }

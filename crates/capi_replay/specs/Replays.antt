@@ -4,9 +4,9 @@ use mathlib.Core.Path.{_≡_}
 use mathlib.Core.List.{List}
 use lib.ListN.{length}
 use Rattle.refusals.specs.Number.{unreplayableNumber}
-use Rattle.flags.specs.declared.flags.Flags.{Flags}
-use Rattle.state.specs.declared.slots.Slot.{Slot}
-use Rattle.run.specs.SlotRun.{Scene}
+use Rattle.log.specs.Log.{Log}
+use Rattle.script.specs.Script.{Script}
+use Rattle.run.specs.Registers.{Registers}
 use Rattle.run.specs.Replay.{replayOf, Replays}
 use Rattle.run.specs.declared.answers.Ending.{Ending}
 use Rattle.run.specs.declared.answers.Replayed.{Replayed}
@@ -62,6 +62,6 @@ replayReply (ReplayAnswer.Ended told) = endedReply told
 replayReply (ReplayAnswer.Refused why) = unreplayedReply (unreplayableNumber why)
 
 -- the reply tells replay's answer, of which and of the lent entries all holds that replay promises
-pub record HwsqReplay (x : Scene) (slot : Slot) (flags : Flags) (old new : List ℕ) (reply : ReplayReply) : Type 0 where
-  pub answered : reply ≡ replayReply (replayOf x slot flags (length old))
-  pub replays : Replays x slot flags old new (replayOf x slot flags (length old))
+pub record HwsqReplay (script : Script) (registers : Registers) (log : Log) (old new : List ℕ) (reply : ReplayReply) : Type 0 where
+  pub answered : reply ≡ replayReply (replayOf script registers log (length old))
+  pub replays : Replays script registers log old new (replayOf script registers log (length old))

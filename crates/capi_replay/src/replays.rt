@@ -2,8 +2,8 @@
 ghost use mathlib.Core.Path.{_≡_};
 ghost use Rattle.capi_replay.specs.Replays.{endingNumber, endedReply, unreplayedReply, replayReply, HwsqReplay};
 ghost use Rattle.log.specs.Log.{logOf};
-ghost use Rattle.flags.specs.Flags.{flagsFromWords};
-ghost use Rattle.run.specs.SlotRun.{sceneFor, slotAtEntry};
+ghost use Rattle.run.specs.Registers.{registersOf};
+ghost use Rattle.script.specs.Script.{scriptOf};
 use isa::CodeAddress;
 use isa::MmioAddress;
 use run::Ending;
@@ -51,9 +51,8 @@ pub extern "C" fn hwsq_replay<'a>(
     values: &'a [u32],
     writes: &mut [u32],
 ) -> ReplayReply
-    ensures { λ r. ⌜ HwsqReplay
-        (sceneFor family (now (code .entry)) (now (marks .entry)) enable (logOf (now (clocks .entry)) (now (known .entry)) (now (values .entry))))
-        (slotAtEntry entry addr «data») (flagsFromWords «flags_0» «flags_1») (now (writes .entry)) (now (writes .exit)) r ⌝ }
+    ensures { λ r. ⌜ HwsqReplay (scriptOf family (now (code .entry)) (now (marks .entry)) entry) (registersOf addr «data» «flags_0» «flags_1» enable)
+        (logOf (now (clocks .entry)) (now (known .entry)) (now (values .entry))) (now (writes .entry)) (now (writes .exit)) r ⌝ }
 {
     replay_reply(replay::replay(
         family,

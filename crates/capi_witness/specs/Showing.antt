@@ -5,6 +5,7 @@ use mathlib.Core.List.{List}
 use Rattle.refusals.specs.Number.{faultNumber, unshowableNumber}
 use Rattle.isa.specs.declared.addresses.CodeAddress.{CodeAddress}
 use Rattle.log.specs.Log.{Log}
+use Rattle.script.specs.Script.{Script}
 use Rattle.verdict.specs.Witness.{secondAddr, secondData}
 use Rattle.verdict.specs.declared.verdicts.Verdict.{Verdict}
 use Rattle.witness.specs.Witnesses.{witnessOf, Witnesses}
@@ -43,6 +44,6 @@ witnessReply (WitnessAnswer.Shown shown) = shownReply shown
 witnessReply (WitnessAnswer.Refused why) = unshownReply (unshowableNumber why)
 
 -- the reply tells the answer, of which all holds that `witness` promises, of the columns too
-pub record HwsqWitness (family : ℕ) (code marks : List ℕ) (entry : ℕ) (ranges : List ℕ) (lent new : Log) (reply : WitnessReply) : Type 0 where
-  pub answered : reply ≡ witnessReply (witnessOf family code marks entry ranges lent)
-  pub witnesses : Witnesses family code marks entry ranges lent new (witnessOf family code marks entry ranges lent)
+pub record HwsqWitness (script : Script) (ranges : List ℕ) (lent new : Log) (reply : WitnessReply) : Type 0 where
+  pub answered : reply ≡ witnessReply (witnessOf script ranges lent)
+  pub witnesses : Witnesses script ranges lent new (witnessOf script ranges lent)

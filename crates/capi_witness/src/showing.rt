@@ -2,6 +2,7 @@
 ghost use mathlib.Core.Path.{_≡_};
 ghost use mathlib.Core.Bool.{cond};
 ghost use Rattle.log.specs.Log.{logOf};
+ghost use Rattle.script.specs.Script.{scriptOf};
 ghost use Rattle.capi_witness.specs.Showing.{toldReply, shownReply, unshownReply, witnessReply, HwsqWitness};
 use isa::CodeAddress;
 use verdict::Verdict;
@@ -38,7 +39,7 @@ pub extern "C" fn hwsq_witness<'a>(
     known: &mut [u32],
     values: &mut [u32],
 ) -> WitnessReply
-    ensures { λ r. ⌜ HwsqWitness family (now (code .entry)) (now (marks .entry)) entry (now (ranges .entry))
+    ensures { λ r. ⌜ HwsqWitness (scriptOf family (now (code .entry)) (now (marks .entry)) entry) (now (ranges .entry))
         (logOf (now (clocks .entry)) (now (known .entry)) (now (values .entry))) (logOf (now (clocks .exit)) (now (known .exit)) (now (values .exit))) r ⌝ }
 {
     witness_reply(witness::witness(

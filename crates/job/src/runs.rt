@@ -8,6 +8,7 @@ ghost use Rattle.verdict.specs.Auditor.{auditOf};
 ghost use Rattle.run.specs.Replay.{RunsSlot};
 ghost use Rattle.run.specs.SlotRun.{sceneFor};
 ghost use Rattle.log.specs.Log.{logOf};
+ghost use Rattle.script.specs.Script.{scriptOf};
 ghost use Rattle.script.specs.Input.{maxRanges};
 ghost use Rattle.records.specs.Job.{CountsFit};
 ghost use Rattle.report.specs.Script.{verdictOf, wordOf, statusOf};
@@ -36,7 +37,7 @@ fn audit_code(
     ranges: usize,
 ) -> Verdict
     requires { ⌜ ranges ≤ maxRanges ⌝ }
-    ensures { λ r. ⌜ r ≡ auditOf family (codeRam family code) (codeRam family marks) (entry .0) (take (2 * ranges) bounds) ⌝ }
+    ensures { λ r. ⌜ r ≡ auditOf (scriptOf family (codeRam family code) (codeRam family marks) (entry .0)) (take (2 * ranges) bounds) ⌝ }
 {
     let size = families::code_size(family);
     let count = 2 * ranges;

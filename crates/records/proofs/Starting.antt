@@ -17,7 +17,7 @@ use Rattle.execution.specs.Execution.{someSlotExecutes, executingSlot}
 use Rattle.execution.proofs.Executing.{executing-executes}
 use Rattle.registers.proofs.HostMade.{HostMade, executing-runs, other-idle}
 use Rattle.records.specs.Job.{rangesOf}
-use Rattle.records.specs.Started.{codeOf, marksOf, entryOf, Started}
+use Rattle.records.specs.Started.{codeOf, marksOf, entryOf, scriptIn, Started}
 use Rattle.records.specs.declared.contents.Job.{Job}
 use Rattle.records.proofs.Growth.{Going}
 
@@ -30,7 +30,7 @@ module _ (s : State) (made : HostMade s) (some : someSlotExecutes s ≡ true) wh
   known : knownFamily (s .family) ≡ true
   known = known-slot (s .family) (executingSlot s) (both-left _ _ (executing-executes s some))
 
-  script-fits : scriptFits (s .family) (codeOf s) (marksOf s) (entryOf s) ≡ true
+  script-fits : scriptFits (scriptIn s) ≡ true
   unfolding scriptFits
   script-fits =
       let size = codeSize (s .family) in

@@ -4,6 +4,7 @@ use mathlib.Core.Path.{_≡_}
 use mathlib.Core.Bool.{true}
 use mathlib.Core.List.{List}
 use Rattle.fetch.specs.Fetch.{codeRam}
+use Rattle.script.specs.Script.{Script, scriptOf}
 use Rattle.script.specs.Input.{inputFits}
 use Rattle.state.specs.Slot.{hasSlot, otherOf, slotOf}
 use Rattle.state.specs.declared.slots.Mode.{Mode}
@@ -28,6 +29,10 @@ marksOf s = codeRam (s .family) (s .marks)
 abbrev pub entryOf : State → ℕ
 entryOf s = executing s .ip .0
 
+-- the script that it runs
+abbrev pub scriptIn : State → Script
+scriptIn s = scriptOf (s .family) (codeOf s) (marksOf s) (entryOf s)
+
 pub record Started (j : Job) : Type 0 where
   -- a slot executes, and it runs: it is not hung, blocked or in a wait
   pub some : someSlotExecutes (j .state) ≡ true
@@ -36,4 +41,4 @@ pub record Started (j : Job) : Type 0 where
   pub other-idle : hasSlot (j .state .family) (otherOf (executingSlot (j .state))) ≡ true
       → slotOf (j .state) (otherOf (executingSlot (j .state))) .mode ≡ Mode.Idle
   -- script and ranges may be audited, so that no job's verdict is 9
-  pub fits : inputFits (j .state .family) (codeOf (j .state)) (marksOf (j .state)) (entryOf (j .state)) (rangesOf j) ≡ true
+  pub fits : inputFits (scriptIn (j .state)) (rangesOf j) ≡ true

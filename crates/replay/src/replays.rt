@@ -5,14 +5,15 @@ ghost use Prim.Native.Nat.{_+_, _*_, _^_, _<_, _≤_};
 ghost use lib.ListN.{length};
 ghost use lib.Seq.{sets};
 ghost use Rattle.fetch.specs.Fetch.{fetchOf};
-ghost use Rattle.flags.specs.Flags.{flagsFromWords};
 ghost use Rattle.log.specs.Log.{logOf};
 ghost use Rattle.log.specs.Validity.{validLog};
 ghost use Rattle.waits.specs.Left.{leftOf};
 ghost use Rattle.turn.specs.Turn.{turnOf};
 ghost use Rattle.run.specs.Run.{wroteBy, fetchedBy};
 ghost use Rattle.run.specs.Replay.{maxEntries, endingOf, entriesOf, progressOf, toldOf, RunsSlot, Replays};
+ghost use Rattle.run.specs.Registers.{registersOf};
 ghost use Rattle.run.specs.SlotRun.{sceneFor, slotBegun, slotAtEntry};
+ghost use Rattle.script.specs.Script.{scriptOf};
 ghost use Rattle.replay.specs.Progress.{progressAfter, RunsThrough};
 use flags::Flags;
 use isa::CodeAddress;
@@ -51,9 +52,8 @@ pub fn replay<'a>(
     values: &'a [u32],
     writes: &mut [u32],
 ) -> ReplayAnswer
-    ensures { λ r. ⌜ Replays
-        (sceneFor family (now (code .entry)) (now (marks .entry)) enable (logOf (now (clocks .entry)) (now (known .entry)) (now (values .entry))))
-        (slotAtEntry (entry .0) (addr .0) «data») (flagsFromWords «flags_0» «flags_1») (now (writes .entry)) (now (writes .exit)) r ⌝ }
+    ensures { λ r. ⌜ Replays (scriptOf family (now (code .entry)) (now (marks .entry)) (entry .0)) (registersOf (addr .0) «data» «flags_0» «flags_1» enable)
+        (logOf (now (clocks .entry)) (now (known .entry)) (now (values .entry))) (now (writes .entry)) (now (writes .exit)) r ⌝ }
 {
     let slot = slot_at_entry(entry, addr, data);
     let flags = flags::flags_from_words(flags_0, flags_1);

@@ -25,7 +25,7 @@ use Rattle.run.specs.declared.answers.Ending.{Ending}
 use Rattle.run.proofs.InState.{full-follows}
 use Rattle.records.specs.Job.{knownOf, logIn}
 use Rattle.records.specs.Reader.{readOf, Sound}
-use Rattle.records.specs.Started.{Started, executing, codeOf, marksOf, entryOf}
+use Rattle.records.specs.Started.{Started, executing, codeOf, marksOf, scriptIn}
 use Rattle.records.specs.declared.contents.Job.{Job}
 use Rattle.report.specs.Lines.{familyLine, passLine, writeLines, rowLines, endLine, statusLine}
 use Rattle.report.specs.Script.{jobScene, jobRun, stepRun, statusOf}
@@ -33,8 +33,8 @@ use Rattle.report.specs.Report.{runLines, jobLines, reportOf, stepLines,
 use Rattle.report.proofs.ScriptLaws.{script-fits}
 
 module _ (j : Job) (sound : Sound j) (started : Started j) where
-  fit : Fits (j .state .family) (codeOf (j .state)) (marksOf (j .state)) (entryOf (j .state))
-  fit = fits-script _ _ _ _ (script-fits j started)
+  fit : Fits (scriptIn (j .state))
+  fit = fits-script _ (script-fits j started)
 
   -- the family's part of the state's bytes is fetched as those are
   same-scene : SameScene (sceneOf (j .state) (logIn j)) (jobScene j)

@@ -10,16 +10,16 @@ use Rattle.script.proofs.Scripts.{fits-script}
 use Rattle.run.specs.Replay.{fullSteps}
 use Rattle.run.proofs.Room.{slot-room}
 use Rattle.records.specs.Job.{rangesOf}
-use Rattle.records.specs.Started.{Started, executing, codeOf, marksOf, entryOf}
+use Rattle.records.specs.Started.{Started, executing, scriptIn}
 use Rattle.records.specs.declared.contents.Job.{Job}
 use Rattle.report.specs.Script.{jobScene, jobRun}
 
 module _ (j : Job) (started : Started j) where
-  pub script-fits : scriptFits (j .state .family) (codeOf (j .state)) (marksOf (j .state)) (entryOf (j .state)) ≡ true
+  pub script-fits : scriptFits (scriptIn (j .state)) ≡ true
   script-fits = both-left _ (rangesFit (rangesOf j)) (started .fits)
 
   pub writes-few : length (jobRun j .writes) ≤ 170
   unfolding jobRun
   writes-few =
-      let low = fits-script _ _ _ _ script-fits .entry-low in
+      let low = fits-script _ script-fits .entry-low in
       slot-room (jobScene j) (executing (j .state)) (j .state .flags) (omega arith) (fullSteps (j .state .family))

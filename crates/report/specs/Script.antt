@@ -8,19 +8,19 @@ use Rattle.execution.specs.Execution.{executingSlot}
 use Rattle.verdict.specs.Auditor.{auditOf}
 use Rattle.verdict.specs.declared.verdicts.Verdict.{Verdict}
 use Rattle.run.specs.Run.{Run}
-use Rattle.run.specs.SlotRun.{Scene, SlotRun, sceneFor}
+use Rattle.run.specs.SlotRun.{Scene, SlotRun, scriptScene}
 use Rattle.run.specs.Replay.{fullSlotRun, fullRun}
 use Rattle.records.specs.Job.{rangesOf, clocksOf, knownOf, valuesOf, logIn}
-use Rattle.records.specs.Started.{executing, codeOf, marksOf, entryOf}
+use Rattle.records.specs.Started.{executing, scriptIn}
 use Rattle.records.specs.declared.contents.Job.{Job}
 
 -- what the auditor says of it
 unfoldable pub verdictOf : Job → Verdict
-verdictOf j = let s = j .state in auditOf (s .family) (codeOf s) (marksOf s) (entryOf s) (rangesOf j)
+verdictOf j = auditOf (scriptIn (j .state)) (rangesOf j)
 
 -- what its turns read: the family's code RAM and marks, HWSQ_ENABLE as it is, and the job's rows
 abbrev pub jobScene : Job → Scene
-jobScene j = let s = j .state in sceneFor (s .family) (codeOf s) (marksOf s) (s .enable) (logIn j)
+jobScene j = scriptScene (scriptIn (j .state)) (j .state .enable) (logIn j)
 
 -- its run: of the executing slot as it stands, with the flags as they are
 unfoldable pub jobRun : Job → SlotRun

@@ -12,8 +12,9 @@ use Rattle.flags.specs.declared.flags.Flags.{Flags}
 use Rattle.state.specs.declared.slots.Slot.{Slot}
 use Rattle.state.specs.declared.slots.SlotName.{SlotName}
 use Rattle.state.proofs.SlotLaws.{has-a}
+use Rattle.script.specs.Script.{Script}
 use Rattle.script.proofs.Scripts.{Fits, fits-script}
-use Rattle.run.specs.SlotRun.{Scene, sceneFor, stateWith, Holds}
+use Rattle.run.specs.SlotRun.{Scene, sceneFor, slotScript, stateWith, Holds}
 use Rattle.run.specs.Replay.{IsHeld}
 
 abbrev pub filled : List ℕ → List ℕ
@@ -29,7 +30,7 @@ filled-at l i h = List·getD-append l (replicate (512 - length l) 0) 0 i h
 abbrev pub filledScene : Scene → Scene
 filledScene x = sceneFor (x .family) (filled (x .code)) (filled (x .marks)) (x .enable) (x .log)
 
-module _ (x : Scene) {entry : ℕ} (fit : Fits (x .family) (x .code) (x .marks) entry) where
+module _ (x : Script) (fit : Fits x) where
   -- the script lies at the front of the arrays
   pub filled-marks : (i : ℕ) → i < codeSize (x .family) → eqb (getD (filled (x .marks)) i 0) 1 ≡ eqb (getD (x .marks) i 0) 1
   filled-marks i h = ap (λ (m : ℕ). eqb m 1) (filled-at (x .marks) i (omega (arith, fit .marks-size)))
@@ -37,30 +38,32 @@ module _ (x : Scene) {entry : ℕ} (fit : Fits (x .family) (x .code) (x .marks) 
   pub filled-code : (i : ℕ) → i < codeSize (x .family) → getD (filled (x .code)) i 0 ≡ getD (x .code) i 0
   filled-code i h = filled-at (x .code) i (omega (arith, fit .code-size))
 
-  pub state-holds : (slot : Slot) (flags : Flags) → Holds x slot flags SlotName.A (stateWith (filledScene x) slot flags)
-  state-holds slot flags =
-      let small = size-small (x .family) in
-      record {
-        known-family = fit .known;
-        slot-there = has-a (x .family) (fit .known);
-        same-scene = record {
-          family = refl;
-          enable = refl;
-          log = refl;
-          fetches =
-              same-fetch (x .family) (x .code) (x .marks) (filled (x .code)) (filled (x .marks)) (omega (arith, fit .code-size))
-              (omega (arith, fit .code-size, filled-size (x .code) (omega (arith, fit .code-size)))) filled-marks (λ i h _. filled-code i h);
-        };
-        same-slot = refl;
-        same-flags = refl;
-      }
+state-holds : (x : Scene) (slot : Slot) (flags : Flags) → Fits (slotScript x slot) → Holds x slot flags SlotName.A (stateWith (filledScene x) slot flags)
+state-holds x slot flags fit =
+    let script = slotScript x slot in
+    let small = size-small (x .family) in
+    record {
+      known-family = fit .known;
+      slot-there = has-a (x .family) (fit .known);
+      same-scene = record {
+        family = refl;
+        enable = refl;
+        log = refl;
+        fetches =
+            same-fetch (x .family) (x .code) (x .marks) (filled (x .code)) (filled (x .marks)) (omega (arith, fit .code-size))
+            (omega (arith, fit .code-size, filled-size (x .code) (omega (arith, fit .code-size))))
+            (filled-marks script fit) (λ i h _. filled-code script fit i h);
+      };
+      same-slot = refl;
+      same-flags = refl;
+    }
 
 pub is-held : (x : Scene) (slot : Slot) (flags : Flags) → IsHeld x slot flags
 is-held x slot flags fits =
-    let fit = fits-script (x .family) (x .code) (x .marks) (slot .ip .0) fits in
+    let fit = fits-script (slotScript x slot) fits in
     let small = size-small (x .family) in (
       stateWith (filledScene x) slot flags,
       filled-size (x .code) (omega (arith, fit .code-size)),
       filled-size (x .marks) (omega (arith, fit .marks-size)),
-      state-holds x fit slot flags,
+      state-holds x slot flags fit,
     )

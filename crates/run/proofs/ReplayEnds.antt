@@ -14,7 +14,7 @@ use Rattle.script.specs.Input.{scriptFits}
 use Rattle.machine.specs.declared.steps.Stepped.{Stepped}
 use Rattle.refusals.specs.declared.refusals.Unreplayable.{Unreplayable}
 use Rattle.run.specs.Run.{Run}
-use Rattle.run.specs.SlotRun.{Scene, withLog, slotRunOf}
+use Rattle.run.specs.SlotRun.{Scene, slotScript, withLog, slotRunOf}
 use Rattle.run.specs.Replay.{maxEntries, fullSteps, fullSlotRun, progressOf, entriesOf, writtenInto, toldAnswer, runNumber, answerNumber}
 use Rattle.run.specs.Replay.{runAnswerOf, runRefusal, lentAfter, RunEnds, EndsRight, RunsSlot}
 use Rattle.run.specs.declared.answers.Progress.{Progress}
@@ -48,7 +48,7 @@ module _ (x : Scene) (slot : Slot) (flags : Flags) where
   run-numbered : (lent : ℕ) → runNumber (runAnswerOf x slot flags lent) ≡ runRefusal x slot flags lent
   unfolding runAnswerOf runRefusal
   run-numbered lent =
-      in-order (scriptFits (x .family) (x .code) (x .marks) (slot .ip .0)) (leb maxEntries lent) (validLog (x .log)) (progressOf (fullSlotRun x slot flags))
+      in-order (scriptFits (slotScript x slot)) (leb maxEntries lent) (validLog (x .log)) (progressOf (fullSlotRun x slot flags))
 
   -- a run is refused, or ended under a log
   answer-elim : (P : RunAnswer → Type 0) → ((why : Unreplayable) → P (RunAnswer.Refused why))
@@ -56,7 +56,7 @@ module _ (x : Scene) (slot : Slot) (flags : Flags) where
       → (lent : ℕ) → P (runAnswerOf x slot flags lent)
   unfolding runAnswerOf
   answer-elim P refused ended lent =
-      cond-elim P (scriptFits (x .family) (x .code) (x .marks) (slot .ip .0))
+      cond-elim P (scriptFits (slotScript x slot))
       (λ _. cond-elim P (leb maxEntries lent) (λ _. cond-elim P (validLog (x .log)) ended (λ _. refused Unreplayable.Log)) (λ _. refused Unreplayable.Room))
       (λ _. refused Unreplayable.Input)
 

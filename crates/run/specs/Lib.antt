@@ -2,4 +2,5 @@ pub mod Run
 pub mod SlotRun
 pub mod MoreLog
 pub mod Pairs
+pub mod Registers
 pub mod Replay

@@ -19,9 +19,11 @@ use Rattle.state.specs.declared.slots.Slot.{Slot}
 use Rattle.state.specs.declared.slots.SlotName.{SlotName}
 use Rattle.state.specs.declared.state.State.{State}
 use Rattle.turn.specs.declared.turn.Effect.{Effect}
+use Rattle.script.specs.Script.{Script}
 use Rattle.script.specs.Input.{scriptFits}
 use Rattle.run.specs.Run.{Run, Write, begun, nextStep, runFor}
-use Rattle.run.specs.SlotRun.{Scene, withLog, SlotRun, slotBegun, slotRunFor, inState, slotRunOf, Holds}
+use Rattle.run.specs.SlotRun.{Scene, scriptScene, slotScript, withLog, SlotRun, slotBegun, slotRunFor, inState, slotRunOf, Holds}
+use Rattle.run.specs.Registers.{Registers, slotGiven, flagsGiven}
 use Rattle.run.specs.MoreLog.{SaysMore}
 use Rattle.run.specs.Pairs.{Pairs}
 use Rattle.run.specs.declared.answers.Ending.{Ending}
@@ -109,7 +111,7 @@ module _ (x : Scene) (slot : Slot) (flags : Flags) where
   -- the script does not fit, fewer than 340 entries are lent, the columns are no log: tested in this order; then how far the run came
   unfoldable pub runAnswerOf : ℕ → RunAnswer
   runAnswerOf lent =
-      cond (scriptFits (x .family) (x .code) (x .marks) (slot .ip .0))
+      cond (scriptFits (slotScript x slot))
       (cond (leb maxEntries lent)
       (cond (validLog (x .log))
       (RunAnswer.Ended (progressOf (fullSlotRun x slot flags)))
@@ -120,7 +122,7 @@ module _ (x : Scene) (slot : Slot) (flags : Flags) where
   -- which number an answer must have: 9 script, 14 fewer than 340 entries lent, 15 log, tested in this order
   unfoldable pub runRefusal : ℕ → ℕ
   runRefusal lent =
-      cond (not (scriptFits (x .family) (x .code) (x .marks) (slot .ip .0))) 9
+      cond (not (scriptFits (slotScript x slot))) 9
       (cond (not (leb maxEntries lent)) 14
       (cond (not (validLog (x .log))) 15
       0))
@@ -139,7 +141,7 @@ module _ (x : Scene) (slot : Slot) (flags : Flags) where
 
   -- a script that fits is held by a state, whose arrays have room for 512 bytes
   abbrev pub IsHeld : Type 0
-  IsHeld = scriptFits (x .family) (x .code) (x .marks) (slot .ip .0) ≡ true
+  IsHeld = scriptFits (slotScript x slot) ≡ true
       → (s : State) × (length (s .code) ≡ 512) × (length (s .marks) ≡ 512) × (Holds x slot flags SlotName.A s)
 
   -- what holds of a run that ended, in every state that holds the slot, and of the lent entries, old and new
@@ -174,15 +176,27 @@ module _ (x : Scene) (slot : Slot) (flags : Flags) where
     -- more log on worked scripts: of the definitions, and so of every run
     pub pairs : Pairs
 
-  -- ---- replay: what is told of such a run
+-- ---- replay: what is told of the run of a script from its entry, with the registers that were given
+
+module _ (script : Script) (registers : Registers) (log : Log) where
+  abbrev pub replayScene : Scene
+  replayScene = scriptScene script (registers .enable) log
+
+  -- the run that is replayed
+  abbrev pub replayedRun : SlotRun
+  replayedRun = fullSlotRun replayScene (slotGiven script registers) (flagsGiven registers)
 
   abbrev pub replayOf : ℕ → ReplayAnswer
-  replayOf lent = toldAnswer (x .log .clocks) (runAnswerOf lent)
+  replayOf lent = toldAnswer (log .clocks) (runAnswerOf replayScene (slotGiven script registers) (flagsGiven registers) lent)
+
+  -- which number an answer must have: a run's
+  abbrev pub replayRefusal : ℕ → ℕ
+  replayRefusal = runRefusal replayScene (slotGiven script registers) (flagsGiven registers)
 
   -- what replay promises of its answer and of the lent entries, old and new: it tells the answer of a run of which all that holds
   pub record Replays (old new : List ℕ) (answer : ReplayAnswer) : Type 0 where
     pub answered : answer ≡ replayOf (length old)
-    pub numbered : answerNumber answer ≡ runRefusal (length old)
+    pub numbered : answerNumber answer ≡ replayRefusal (length old)
     pub ran : RunAnswer
-    pub tells : answer ≡ toldAnswer (x .log .clocks) ran
-    pub runs : RunsSlot old new ran
+    pub tells : answer ≡ toldAnswer (log .clocks) ran
+    pub runs : RunsSlot replayScene (slotGiven script registers) (flagsGiven registers) old new ran

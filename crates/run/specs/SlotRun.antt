@@ -18,6 +18,7 @@ use Rattle.state.specs.declared.state.State.{State}
 use Rattle.turn.specs.Turn.{sameTurn, turnOf}
 use Rattle.turn.specs.declared.turn.Effect.{Effect}
 use Rattle.turn.specs.declared.turn.Turn.{Turn}
+use Rattle.script.specs.Script.{Script, scriptOf}
 use Rattle.run.specs.Run.{Run, Write, wroteBy, fetchedBy}
 
 -- what a slot's turns read and none changes: the family, its code RAM with the upload marks, HWSQ_ENABLE and the log
@@ -31,7 +32,15 @@ pub record Scene : Type 0 where
 abbrev pub sceneFor : ℕ → List ℕ → List ℕ → Bool → Log → Scene
 sceneFor family code marks enable log = record { family = family; code = code; marks = marks; enable = enable; log = log }
 
--- the same under another log
+-- what the turns of a script read, with this HWSQ_ENABLE and under this log
+abbrev pub scriptScene : Script → Bool → Log → Scene
+scriptScene script enable log = sceneFor (script .family) (script .code) (script .marks) enable log
+
+-- the script that a slot runs from where it stands: its IP is the entry
+abbrev pub slotScript : Scene → Slot → Script
+slotScript x slot = scriptOf (x .family) (x .code) (x .marks) (slot .ip .0)
+
+-- the same scene under another log
 abbrev pub withLog : Scene → Log → Scene
 withLog x log = sceneFor (x .family) (x .code) (x .marks) (x .enable) log
 

@@ -2,7 +2,6 @@
 use Prim.Native.Nat.{ℕ, _+_, _^_, _≤_, _<_}
 use mathlib.Core.Path.{_≡_, refl}
 use mathlib.Core.Bool.{true}
-use mathlib.Core.List.{List}
 use native.Mathlib.Omega.{arith}
 use lib.Dec.{leb, eqb}
 use lib.ListN.{length, getD}
@@ -13,55 +12,47 @@ use Rattle.isa.specs.declared.instructions.Instruction.{Instruction}
 use Rattle.isa.specs.declared.reader.Decoded.{Decoded}
 use Rattle.isa.proofs.Clocks.{wait-most}
 use Rattle.isa.proofs.Tests.{both-left, both-right, by-family-elim}
-use Rattle.fetch.specs.Fetch.{fetchOf}
 use Rattle.fetch.proofs.Places.{fetch-inside, fetch-lies}
 use Rattle.actions.specs.Action.{actionOf}
 use Rattle.actions.specs.declared.actions.Action.{Action}
+use Rattle.script.specs.Script.{Script, fetchAt}
 use Rattle.script.specs.Input.{marksPlain, scriptFits}
-
--- what the auditor is given, but for the entry
-pub record Script : Type 0 where
-  pub family : ℕ
-  pub code : List ℕ
-  pub marks : List ℕ
-  pub ranges : List ℕ
 
 -- ---- row 9's tests of a script, as facts
 
-pub record Fits (family : ℕ) (code marks : List ℕ) (entry : ℕ) : Type 0 where
-  pub known : knownFamily family ≡ true
-  pub code-size : length code ≡ codeSize family
-  pub marks-size : length marks ≡ codeSize family
-  pub plain : marksPlain marks ≡ true
-  pub entry-low : entry ≤ 511
+pub record Fits (x : Script) : Type 0 where
+  pub known : knownFamily (x .family) ≡ true
+  pub code-size : length (x .code) ≡ codeSize (x .family)
+  pub marks-size : length (x .marks) ≡ codeSize (x .family)
+  pub plain : marksPlain (x .marks) ≡ true
+  pub entry-low : x .entry ≤ 511
 
 entry-most : (family : ℕ) → highestEntry family ≤ 511
 entry-most family = by-family-elim (λ (n : ℕ). n ≤ 511) family 255 255 255 511 (omega arith) (omega arith) (omega arith) (omega arith) (λ _. omega arith)
 
-pub fits-script : (family : ℕ) (code marks : List ℕ) (entry : ℕ) → scriptFits family code marks entry ≡ true → Fits family code marks entry
+pub fits-script : (x : Script) → scriptFits x ≡ true → Fits x
 unfolding scriptFits
-fits-script family code marks entry e =
-    let one = both-right (knownFamily family) _ e in
-    let two = both-right (eqb (length code) (codeSize family)) _ one in
-    let three = both-right (eqb (length marks) (codeSize family)) _ two in
-    let four = both-right (marksPlain marks) (leb entry (highestEntry family)) three in
+fits-script x e =
+    let size = codeSize (x .family) in
+    let low = leb (x .entry) (highestEntry (x .family)) in
+    let one = both-right (knownFamily (x .family)) _ e in
+    let two = both-right (eqb (length (x .code)) size) _ one in
+    let three = both-right (eqb (length (x .marks)) size) _ two in
+    let four = both-right (marksPlain (x .marks)) low three in
     record {
-      known = both-left (knownFamily family) _ e;
-      code-size = eqb-true (length code) (codeSize family) (both-left (eqb (length code) (codeSize family)) _ one);
-      marks-size = eqb-true (length marks) (codeSize family) (both-left (eqb (length marks) (codeSize family)) _ two);
-      plain = both-left (marksPlain marks) (leb entry (highestEntry family)) three;
-      entry-low = omega (arith, leb-true entry (highestEntry family) four, entry-most family);
+      known = both-left (knownFamily (x .family)) _ e;
+      code-size = eqb-true (length (x .code)) size (both-left (eqb (length (x .code)) size) _ one);
+      marks-size = eqb-true (length (x .marks)) size (both-left (eqb (length (x .marks)) size) _ two);
+      plain = both-left (marksPlain (x .marks)) low three;
+      entry-low = omega (arith, leb-true (x .entry) (highestEntry (x .family)) four, entry-most (x .family));
     }
 
 -- a script that fits, of bytes
-pub record Auditable (x : Script) (entry : ℕ) : Type 0 where
-  pub fits : Fits (x .family) (x .code) (x .marks) entry
+pub record Auditable (x : Script) : Type 0 where
+  pub fits : Fits x
   pub bytes : (i : ℕ) → getD (x .code) i 0 < 2 ^ 8
 
 -- ---- the action at a place
-
-abbrev pub fetchAt : Script → ℕ → Decoded
-fetchAt x p = fetchOf (x .family) (x .code) (x .marks) p
 
 -- the operands that an instruction of a few bytes can have
 abbrev pub Formed : Action → Type 0
@@ -93,7 +84,8 @@ pub record Reads (x : Script) (p : ℕ) (action : Action) (n : ℕ) : Type 0 whe
   pub inside : p + n ≤ codeSize (x .family)
   pub formed : Formed action
 
-pub fetch-reads : (x : Script) → ((i : ℕ) → getD (x .code) i 0 < 2 ^ 8) → (p : ℕ) (i : Instruction) (n : ℕ) → fetchAt x p ≡ Decoded.Instruction i n → Reads x p (actionOf i) n
+pub fetch-reads : (x : Script) → ((i : ℕ) → getD (x .code) i 0 < 2 ^ 8) → (p : ℕ) (i : Instruction) (n : ℕ)
+    → fetchAt x p ≡ Decoded.Instruction i n → Reads x p (actionOf i) n
 fetch-reads x bytes p i n e =
     let inside = rw e at (fetch-inside (x .family) (x .code) (x .marks) p bytes) in
     let lies = rw e at (fetch-lies (x .family) (x .code) (x .marks) p) in

@@ -5,6 +5,7 @@ use mathlib.Core.List.{List, [], _∷_}
 use lib.ListN.{length}
 use lib.Dec.{leb, eqb}
 use Rattle.families.specs.Family.{knownFamily, codeSize, highestEntry, within}
+use Rattle.script.specs.Script.{Script}
 
 -- an address is listed if a range holds it, first and last included
 abbrev pub listedIn : List ℕ → ℕ → Bool
@@ -24,9 +25,13 @@ marksPlain [] = true
 marksPlain (m ∷ marks) = leb m 1 && marksPlain marks
 
 -- a known family, code and marks of its size, plain marks, an entry that its registers can hold; such an entry may lie past the code RAM
-unfoldable pub scriptFits : ℕ → List ℕ → List ℕ → ℕ → Bool
-scriptFits family code marks entry =
-    knownFamily family && (eqb (length code) (codeSize family) && (eqb (length marks) (codeSize family) && (marksPlain marks && leb entry (highestEntry family))))
+unfoldable pub scriptFits : Script → Bool
+scriptFits script =
+    knownFamily (script .family)
+    && (eqb (length (script .code)) (codeSize (script .family))
+    && (eqb (length (script .marks)) (codeSize (script .family))
+    && (marksPlain (script .marks)
+    && leb (script .entry) (highestEntry (script .family)))))
 
 -- the most ranges of a script
 abbrev pub maxRanges : ℕ
@@ -37,5 +42,5 @@ unfoldable pub rangesFit : List ℕ → Bool
 rangesFit ranges = leb (length ranges) (2 * maxRanges) && rangesPaired ranges
 
 -- what is not refused with 9
-abbrev pub inputFits : ℕ → List ℕ → List ℕ → ℕ → List ℕ → Bool
-inputFits family code marks entry ranges = scriptFits family code marks entry && rangesFit ranges
+abbrev pub inputFits : Script → List ℕ → Bool
+inputFits script ranges = scriptFits script && rangesFit ranges

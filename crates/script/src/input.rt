@@ -1,6 +1,7 @@
 // Which script may be audited or replayed.
 ghost use mathlib.Core.Path.{_≡_};
 ghost use Rattle.script.specs.Input.{marksPlain, scriptFits};
+ghost use Rattle.script.specs.Script.{scriptOf};
 use isa::CodeAddress;
 
 // Whether each mark is 0 or 1.
@@ -20,7 +21,7 @@ fn marks_plain(marks: &[u8]) -> bool
 // Whether the family is known, code and marks are of its size, marks are plain and the entry is one that its registers
 // can hold.
 pub fn script_fits<'a>(family: u8, code: &'a [u8], marks: &'a [u8], entry: CodeAddress) -> bool
-    ensures { λ r. ⌜ r ≡ scriptFits family (now (code .entry)) (now (marks .entry)) (entry .0) ⌝ }
+    ensures { λ r. ⌜ r ≡ scriptFits (scriptOf family (now (code .entry)) (now (marks .entry)) (entry .0)) ⌝ }
 {
     if !families::known_family(family) {
         return false;

@@ -23,7 +23,8 @@ use Rattle.verdict.specs.Demand3.{AllListed}
 use Rattle.run.specs.Run.{Write, wroteBy}
 use Rattle.run.specs.SlotRun.{SlotRun, nextTurn}
 use Rattle.verdict.specs.declared.verdicts.Knowledge.{Knowledge}
-use Rattle.script.proofs.Scripts.{Script, Formed, Reads}
+use Rattle.script.specs.Script.{Script}
+use Rattle.script.proofs.Scripts.{Formed, Reads}
 use Rattle.verdict.proofs.FlagLaws.{flag-law}
 use Rattle.run.proofs.Settled.{action-fetched}
 use Rattle.verdict.proofs.Going.{sceneUnder, next, Going, performs, mode-then, going-then}
@@ -62,7 +63,8 @@ module _ (family : ℕ) where
   paused-kept (Action.Ewait event value) k flags f e = e
   paused-kept (Action.Flag change flag) k flags f e = rw (flag-law change flag flags f) (by (eqb flag 16))
     where
-      by : (own : Bool) → (pausesMemory family && cond own (isSet1 change) (overrides1 16 flags)) ≡ (pausesMemory family && cond own (isSet1 change) (k .paused))
+      by : (own : Bool)
+          → (pausesMemory family && cond own (isSet1 change) (overrides1 16 flags)) ≡ (pausesMemory family && cond own (isSet1 change) (k .paused))
       by true = refl
       by false = e
   paused-kept (Action.Load part operand) k flags f e = e
@@ -73,61 +75,59 @@ listed-append : (ranges : List ℕ) (ws vs : List Write) → AllListed ranges ws
 listed-append ranges [] vs a b = b
 listed-append ranges (w ∷ ws) vs a b = (a .0, listed-append ranges ws vs (a .1) b)
 
-module _ (x : Script) where
-  -- addr and word: what ADDR and DATA held at the start
-  pub record Agree (addr word p : ℕ) (k : Knowledge) (r : SlotRun) : Type 0 where
-    pub going : Going p r
-    pub held : r .slot .addr .0 ≡ heldAddr (k .addr) addr
-    pub high : k .«data» ≡ false → r .slot .«data» / 65536 ≡ word / 65536
-    pub paused : pausedOf (x .family) (r .flags) ≡ (pausesMemory (x .family) && k .paused)
-    pub count : r .count ≡ k .count
-    pub writes : length (r .writes) ≡ k .writes
-    pub waits : r .waits ≡ k .clocks
-    pub listed : AllListed (x .ranges) (r .writes)
+-- addr and word: what ADDR and DATA held at the start
+pub record Agree (x : Script) (ranges : List ℕ) (addr word p : ℕ) (k : Knowledge) (r : SlotRun) : Type 0 where
+  pub going : Going p r
+  pub held : r .slot .addr .0 ≡ heldAddr (k .addr) addr
+  pub high : k .«data» ≡ false → r .slot .«data» / 65536 ≡ word / 65536
+  pub paused : pausedOf (x .family) (r .flags) ≡ (pausesMemory (x .family) && k .paused)
+  pub count : r .count ≡ k .count
+  pub writes : length (r .writes) ≡ k .writes
+  pub waits : r .waits ≡ k .clocks
+  pub listed : AllListed ranges (r .writes)
 
-  module _ (log : Log) where
-    -- held up: in a wait, with the log at its end
-    pub record Held (r : SlotRun) : Type 0 where
-      pub waiting : r .slot .mode ≡ Mode.Waiting
-      pub row : r .place .row ≡ length (log .clocks)
-      pub used : r .place .used ≡ 0
-      pub listed : AllListed (x .ranges) (r .writes)
+-- held up: in a wait, with the log at its end
+pub record Held (ranges : List ℕ) (log : Log) (r : SlotRun) : Type 0 where
+  pub waiting : r .slot .mode ≡ Mode.Waiting
+  pub row : r .place .row ≡ length (log .clocks)
+  pub used : r .place .used ≡ 0
+  pub listed : AllListed ranges (r .writes)
 
-    -- whatever the log says, an action judged fine leads to agreement or is held up
-    module _ {addr word p n : ℕ} {k : Knowledge} {r : SlotRun} {action : Action}
-        (g : Agree addr word p k r) (e : Reads x p action n) (f : Fine (x .family) (x .ranges) action k) where
-      abbrev elapsed : Elapsed
-      elapsed = elapsedOf action log (r .place)
+-- whatever the log says, an action judged fine leads to agreement or is held up
+module _ {x : Script} {ranges : List ℕ} (log : Log) {addr word p n : ℕ} {k : Knowledge} {r : SlotRun} {action : Action}
+    (g : Agree x ranges addr word p k r) (e : Reads x p action n) (f : Fine (x .family) ranges action k) where
+  abbrev elapsed : Elapsed
+  elapsed = elapsedOf action log (r .place)
 
-      lapsed : Lapse (log .clocks) action (r .place) elapsed
-      lapsed = lapse log action (r .place)
+  lapsed : Lapse (log .clocks) action (r .place) elapsed
+  lapsed = lapse log action (r .place)
 
-      step : nextTurn (sceneUnder x log) r ≡ performOf true (r .slot) (r .flags) action n elapsed
-      step = performs x true log (g .going) e
+  step : nextTurn (sceneUnder x log) r ≡ performOf true (r .slot) (r .flags) action n elapsed
+  step = performs x true log (g .going) e
 
-      pub goes-on : elapsed .finished ≡ true → Agree addr word (p + n) (knowNext action k) (next (sceneUnder x log) r)
-      unfolding performOf
-      goes-on d = rw step (record {
-        going = rw step at (going-then x true log (g .going) e (rw d (f .goes)) (f .moves));
-        held = f .addr addr (r .slot .addr .0) (g .held);
-        high = high-kept action (k .«data») (r .slot .«data») word (g .high);
-        paused = paused-kept (x .family) action k (r .flags) (e .formed) (g .paused);
-        count = omega (arith, g .count, action-fetched action true (r .slot .addr .0) (r .slot .«data»));
-        writes = simp length-append (omega (arith, g .writes, written action (r .slot .addr .0) (r .slot .«data»)));
-        waits = omega (arith, g .waits, lapsed .waited d);
-        listed =
-            listed-append (x .ranges) (r .writes) (wroteBy (effectOf action true (r .slot .addr .0) (r .slot .«data»))) (g .listed)
-            (f .listed addr (r .slot .addr .0) (r .slot .«data») (g .held));
-      })
+  pub goes-on : elapsed .finished ≡ true → Agree x ranges addr word (p + n) (knowNext action k) (next (sceneUnder x log) r)
+  unfolding performOf
+  goes-on d = rw step (record {
+    going = rw step at (going-then x true log (g .going) e (rw d (f .goes)) (f .moves));
+    held = f .addr addr (r .slot .addr .0) (g .held);
+    high = high-kept action (k .«data») (r .slot .«data») word (g .high);
+    paused = paused-kept (x .family) action k (r .flags) (e .formed) (g .paused);
+    count = omega (arith, g .count, action-fetched action true (r .slot .addr .0) (r .slot .«data»));
+    writes = simp length-append (omega (arith, g .writes, written action (r .slot .addr .0) (r .slot .«data»)));
+    waits = omega (arith, g .waits, lapsed .waited d);
+    listed =
+        listed-append ranges (r .writes) (wroteBy (effectOf action true (r .slot .addr .0) (r .slot .«data»))) (g .listed)
+        (f .listed addr (r .slot .addr .0) (r .slot .«data») (g .held));
+  })
 
-      pub waits-then : elapsed .finished ≡ false → next (sceneUnder x log) r .slot .mode ≡ Mode.Waiting
-      waits-then d = mode-then x true log (g .going) e ∙ rw d (lapsed .mode d)
+  pub waits-then : elapsed .finished ≡ false → next (sceneUnder x log) r .slot .mode ≡ Mode.Waiting
+  waits-then d = mode-then x true log (g .going) e ∙ rw d (lapsed .mode d)
 
-      pub held-up : validPlace (log .clocks) (r .place) ≡ true → elapsed .finished ≡ false → Held (next (sceneUnder x log) r)
-      unfolding performOf
-      held-up v d = rw step (record {
-        waiting = rw step at (waits-then d);
-        row = lapsed .end v d .0;
-        used = lapsed .end v d .1;
-        listed = rw (lapsed .quiet d (r .slot .addr .0) (r .slot .«data»), append-nil) (g .listed);
-      })
+  pub held-up : validPlace (log .clocks) (r .place) ≡ true → elapsed .finished ≡ false → Held ranges log (next (sceneUnder x log) r)
+  unfolding performOf
+  held-up v d = rw step (record {
+    waiting = rw step at (waits-then d);
+    row = lapsed .end v d .0;
+    used = lapsed .end v d .1;
+    listed = rw (lapsed .quiet d (r .slot .addr .0) (r .slot .«data»), append-nil) (g .listed);
+  })

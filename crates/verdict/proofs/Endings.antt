@@ -3,6 +3,7 @@ use Prim.Native.Nat.{ℕ, zero, suc, _+_, _≤_}
 use mathlib.Core.Path.{_≡_, refl, sym, ap, subst, _∙_}
 use mathlib.Core.Logic.{_⊎_, inl, inr, ⊎-elim}
 use mathlib.Core.Bool.{Bool, true, false}
+use mathlib.Core.List.{List}
 use native.Mathlib.Omega.{arith}
 use Rattle.families.specs.Family.{codeSize}
 use Rattle.actions.specs.declared.actions.Action.{Action}
@@ -15,17 +16,18 @@ use Rattle.state.specs.declared.slots.SlotName.{SlotName}
 use Rattle.state.specs.declared.state.State.{State}
 use Rattle.time.specs.Time.{elapsedOf}
 use Rattle.turn.specs.Turn.{modeAfter}
-use Rattle.run.specs.SlotRun.{Scene, SlotRun, slotRunFor, slotAtEntry, slotRunOf, Holds}
+use Rattle.run.specs.SlotRun.{Scene, SlotRun, scriptScene, slotRunFor, slotAtEntry, slotRunOf, Holds}
 use Rattle.run.specs.Replay.{fullSteps, fullSlotRun, fullRun, endingOf}
 use Rattle.run.proofs.InState.{run-back, full-follows}
-use Rattle.script.proofs.Scripts.{Script, Reads}
+use Rattle.script.specs.Script.{Script}
+use Rattle.script.proofs.Scripts.{Reads}
 use Rattle.verdict.specs.Auditor.{knowNothing}
 use Rattle.verdict.specs.Demand3.{EndsWell}
 use Rattle.verdict.specs.declared.verdicts.Knowledge.{Knowledge}
-use Rattle.verdict.proofs.Going.{sceneWith, next, run-rests, Going, mode-then, going-then}
+use Rattle.verdict.proofs.Going.{next, run-rests, Going, mode-then, going-then}
 use Rattle.verdict.proofs.Walk.{Walk, here, more}
 
-module _ (x : Script) (entry : ℕ) where
+module _ (x : Script) (ranges : List ℕ) where
   -- a mode in which a slot rests, and its ending
   abbrev Rests : Mode → Type 0
   Rests mode = (isRunning mode ≡ false) × (EndsWell (endingOf mode))
@@ -45,14 +47,14 @@ module _ (x : Script) (entry : ℕ) where
 
   module _ (enable : Bool) (log : Log) where
     abbrev scene : Scene
-    scene = sceneWith x enable log
+    scene = scriptScene x enable log
 
     -- a run that rests stays as it is
     rested : (m : ℕ) (r : SlotRun) → Rests (r .slot .mode) → Rests (slotRunFor scene m r .slot .mode)
     rested m r h = rw (run-rests scene r (h .0) m) h
 
     module _ {q m : ℕ} {l : Knowledge} (e : Reads x q Action.Exit m) where
-      ends-on : {p : ℕ} {k : Knowledge} {r : SlotRun} → Walk x p k q l → Going p r → (n : ℕ) → codeSize (x .family) ≤ p + n
+      ends-on : {p : ℕ} {k : Knowledge} {r : SlotRun} → Walk x ranges p k q l → Going p r → (n : ℕ) → codeSize (x .family) ≤ p + n
           → Rests (slotRunFor scene n r .slot .mode)
       unfolding slotRunFor
       ends-on here g zero h = absurd (omega (arith, e .some, e .inside))
@@ -64,13 +66,13 @@ module _ (x : Script) (entry : ℕ) where
           (fine-mode action enable (elapsedOf action log (r .place) .finished) (j .goes))
 
   -- of every state that holds a slot that runs from the entry
-  pub ends-well : {q m : ℕ} {l : Knowledge} → Reads x q Action.Exit m → Walk x entry knowNothing q l
+  pub ends-well : {q m : ℕ} {l : Knowledge} → Reads x q Action.Exit m → Walk x ranges (x .entry) knowNothing q l
       → (enable : Bool) (log : Log) (addr word : ℕ) (flags : Flags) (name : SlotName) (s : State)
-      → Holds (sceneWith x enable log) (slotAtEntry entry addr word) flags name s → validLog log ≡ true
+      → Holds (scriptScene x enable log) (slotAtEntry (x .entry) addr word) flags name s → validLog log ≡ true
       → EndsWell (endingOf (slotOf (fullRun name log s .state) name .mode))
   ends-well e w enable log addr word flags name s held valid =
-      let y = sceneWith x enable log in
-      let slot = slotAtEntry entry addr word in
+      let y = scriptScene x enable log in
+      let slot = slotAtEntry (x .entry) addr word in
       let shows = ap (slotRunOf name) (full-follows y slot flags name s held valid) ∙ run-back s name (fullSlotRun y slot flags) in
       subst (λ (r : SlotRun). EndsWell (endingOf (r .slot .mode))) (sym shows)
       (ends-on enable log e w (record { runs = refl; ip = refl }) (fullSteps (x .family)) (omega arith) .1)

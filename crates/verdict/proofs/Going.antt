@@ -12,17 +12,14 @@ use Rattle.turn.specs.Turn.{modeAfter, ipAfter, performOf, unfetched}
 use Rattle.actions.specs.declared.actions.Action.{Action}
 use Rattle.state.specs.declared.slots.Mode.{Mode}
 use Rattle.turn.specs.declared.turn.Turn.{Turn}
-use Rattle.run.specs.SlotRun.{Scene, SlotRun, sceneFor, tookTurn, nextTurn, slotRunFor}
+use Rattle.run.specs.SlotRun.{Scene, SlotRun, scriptScene, tookTurn, nextTurn, slotRunFor}
 use Rattle.run.proofs.Settled.{settled-run, rest-settled}
-use Rattle.script.proofs.Scripts.{Script, fetchAt, Reads}
+use Rattle.script.specs.Script.{Script, fetchAt}
+use Rattle.script.proofs.Scripts.{Reads}
 
--- what a slot's turns read of the script
-abbrev pub sceneWith : Script → Bool → Log → Scene
-sceneWith x enable log = sceneFor (x .family) (x .code) (x .marks) enable log
-
--- the same of a start, whose HWSQ_ENABLE is 1
+-- what the turns of a start read, whose HWSQ_ENABLE is 1
 abbrev pub sceneUnder : Script → Log → Scene
-sceneUnder x log = sceneWith x true log
+sceneUnder x log = scriptScene x true log
 
 -- a run after one more turn
 abbrev pub next : Scene → SlotRun → SlotRun
@@ -39,21 +36,21 @@ pub record Going (p : ℕ) (r : SlotRun) : Type 0 where
 
 module _ (x : Script) (enable : Bool) (log : Log) {p : ℕ} {r : SlotRun} (g : Going p r) where
   pub refuses : (why : Unreadable) → fetchAt x p ≡ Decoded.Refused why
-      → nextTurn (sceneWith x enable log) r ≡ unfetched (x .family) (r .slot) (r .flags) (r .place) why
+      → nextTurn (scriptScene x enable log) r ≡ unfetched (x .family) (r .slot) (r .flags) (r .place) why
   refuses why e = simp (g .runs, g .ip, e)
 
   module _ {n : ℕ} {action : Action} (e : Reads x p action n) where
-    pub performs : nextTurn (sceneWith x enable log) r ≡ performOf enable (r .slot) (r .flags) action n (elapsedOf action log (r .place))
+    pub performs : nextTurn (scriptScene x enable log) r ≡ performOf enable (r .slot) (r .flags) action n (elapsedOf action log (r .place))
     performs = simp (g .runs, g .ip, e .found, e .acts)
 
     -- the mode after it
-    pub mode-then : next (sceneWith x enable log) r .slot .mode ≡ modeAfter action enable (elapsedOf action log (r .place) .finished)
+    pub mode-then : next (scriptScene x enable log) r .slot .mode ≡ modeAfter action enable (elapsedOf action log (r .place) .finished)
     unfolding performOf
     mode-then = ap (λ (t : Turn). t .slot .mode) performs
 
     -- and where it then goes on
     pub going-then : modeAfter action enable (elapsedOf action log (r .place) .finished) ≡ Mode.Running → ((at next : ℕ) → ipAfter action at next ≡ next)
-        → Going (p + n) (next (sceneWith x enable log) r)
+        → Going (p + n) (next (scriptScene x enable log) r)
     unfolding performOf
     going-then runs moves = record {
       runs = mode-then ∙ runs;

@@ -3,6 +3,7 @@ use Prim.Native.Nat.{ℕ, suc, _+_, _/_, _<_}
 use mathlib.Core.Path.{_≡_, refl, sym, ap, subst, _∙_}
 use mathlib.Core.Logic.{inl, inr}
 use mathlib.Core.Bool.{true, false, _&&_}
+use mathlib.Core.List.{List}
 use native.Mathlib.Omega.{arith}
 use lib.Dec.{lit<}
 use lib.ListN.{length, length-map}
@@ -34,7 +35,8 @@ use Rattle.turn.specs.declared.turn.Turn.{Turn}
 use Rattle.run.specs.Run.{Run, begun, nextStep, runFor}
 use Rattle.run.specs.SlotRun.{Scene, SlotRun, slotBegun, nextTurn, slotRunFor, slotRunOf}
 use Rattle.run.proofs.SlotRuns.{slot-snoc}
-use Rattle.script.proofs.Scripts.{Script, Auditable, fetchAt, Reads}
+use Rattle.script.specs.Script.{Script, fetchAt}
+use Rattle.script.proofs.Scripts.{Auditable, Reads}
 use Rattle.verdict.specs.Auditor.{faultOf, canRelease, knowNothing}
 use Rattle.verdict.specs.Demand3.{AtPlace, Exact, Witness, WriteDifferently, withAddr, withData}
 use Rattle.verdict.specs.Start.{Start}
@@ -70,10 +72,10 @@ ewait-unfinished log event value rows (Released.At p n) o c =
 ewait-unfinished log event value rows (Released.End n) o c = (refl, refl, refl)
 
 -- so is a run at it, after its turn
-pub stuck-there : (x : Script) {p t event value : ℕ} → Reads x p (Action.Ewait event value) t → canRelease event value ≡ false
+pub stuck-there : {x : Script} {p t event value : ℕ} → Reads x p (Action.Ewait event value) t → canRelease event value ≡ false
     → (log : Log) {r : SlotRun} → Going p r → Stuck log (next (sceneUnder x log) r)
 unfolding performOf
-stuck-there x {event = event} {value = value} e c log {r} g =
+stuck-there {x} {event = event} {value = value} e c log {r} g =
     let cut = ewait-unfinished log event value (length (log .clocks)) (ewaitOf log (r .place) event value) (ewait-on-reading log event value (r .place)) c in
     let same = ap (λ (turn : Turn). turn .place) (performs x true log g e) in
     record { waits = mode-then x true log g e ∙ rw (cut .0) refl; row = rw same (cut .1); used = rw same (cut .2) }
@@ -83,10 +85,9 @@ merge-high : (addr operand : ℕ) → mergeOf Part.Low addr operand / 65536 ≡ 
 merge-high addr operand = omega arith
 
 -- a state's run at exit, from what it shows of the slot
-pub exact-in : (x : Script) (entry : ℕ) {q : ℕ} {l : Knowledge} → (pausesMemory (x .family) && l .paused) ≡ false → (name : SlotName) (r : Run)
-    → Exited x q l (slotRunOf name r)
-    → Exact (x .family) (x .code) (x .marks) entry (x .ranges) name q (l .count + 1) (l .writes) (l .clocks) r
-exact-in x entry unpaused name r h = record {
+pub exact-in : {x : Script} {ranges : List ℕ} {q : ℕ} {l : Knowledge} → (pausesMemory (x .family) && l .paused) ≡ false → (name : SlotName) (r : Run)
+    → Exited x ranges q l (slotRunOf name r) → Exact x name q (l .count + 1) (l .writes) (l .clocks) r
+exact-in unpaused name r h = record {
   exit = record { idle = h .idle; ip = h .ip; memory-runs = h .paused ∙ unpaused };
   counted = h .counted;
   wrote = h .wrote;
@@ -95,37 +96,34 @@ exact-in x entry unpaused name r h = record {
 
 -- ---- the run to where the walk ends, from any start
 
-module _ (x : Script) (entry : ℕ) (fit : Auditable x entry) {q : ℕ} {k : Knowledge} (w : Walk x entry knowNothing q k) where
-  abbrev pub StartIn : SlotName → State → Type 0
-  StartIn = Start (x .family) (x .code) (x .marks) entry
-
+module _ {x : Script} {ranges : List ℕ} (fit : Auditable x) {q : ℕ} {k : Knowledge} (w : Walk x ranges (x .entry) knowNothing q k) where
   abbrev pub log : Log
-  log = witnessLog x w
+  log = witnessLog w
 
   abbrev steps : ℕ
-  steps = length (actionsOf x w)
+  steps = length (actionsOf w)
 
   abbrev scene : Scene
   scene = sceneUnder x log
 
-  module _ {name : SlotName} {s : State} (start : StartIn name s) where
-    abbrev pub witness : Witness (x .family) (x .code) (x .marks) entry (x .ranges)
-    witness = witnessFrom (x .family) (x .code) (x .marks) entry (x .ranges) log (witness-valid x w) (witness-masks x w) steps start
+  module _ {name : SlotName} {s : State} (start : Start x name s) where
+    abbrev pub witness : Witness x
+    witness = witnessFrom x log (witness-valid w) (witness-masks w) steps start
 
     -- its slot's run
     abbrev slot-run : SlotRun
     slot-run = slotRunFor scene steps (slotBegun (slotOf s name) (s .flags))
 
-    arrived : Arrived x log (slotOf s name .addr .0) (slotOf s name .«data») q k (length (witnessRows x w)) slot-run
-    arrived = reach x w (begun-agrees x entry start)
+    arrived : Arrived x ranges log (slotOf s name .addr .0) (slotOf s name .«data») q k (length (witnessRows w)) slot-run
+    arrived = reach w (begun-agrees start)
 
-    agrees : Agree x (slotOf s name .addr .0) (slotOf s name .«data») q k slot-run
+    agrees : Agree x ranges (slotOf s name .addr .0) (slotOf s name .«data») q k slot-run
     agrees = arrived .agrees
 
     same : slotRunOf name (runFor name log steps (begun s)) ≡ slot-run
-    same = slot-follows x entry start (fit .fits) log (witness-valid x w) steps
+    same = slot-follows start (fit .fits) log (witness-valid w) steps
 
-    pub brought : AtPlace (x .family) (x .code) (x .marks) entry (x .ranges) name q (runFor name log steps (begun s))
+    pub brought : AtPlace name q (runFor name log steps (begun s))
     brought = let g = subst (Going q) (sym same) (agrees .going) in record { runs = g .runs; ip = g .ip }
 
     -- what the next step does
@@ -133,7 +131,7 @@ module _ (x : Script) (entry : ℕ) (fit : Auditable x entry) {q : ℕ} {k : Kno
     effect = nextStep name log (runFor name log steps (begun s)) .effect
 
     does : {t : Turn} → nextTurn scene slot-run ≡ t → effect ≡ t .effect
-    does e = effect-follows x entry start (fit .fits) log (witness-valid x w) steps ∙ ap (λ (t : Turn). t .effect) e
+    does e = effect-follows start (fit .fits) log (witness-valid w) steps ∙ ap (λ (t : Turn). t .effect) e
 
     stops : (why : Unreadable) → fetchAt x q ≡ Decoded.Refused why
         → effect ≡ unfetched (x .family) (slot-run .slot) (slot-run .flags) (slot-run .place) why .effect
@@ -147,11 +145,11 @@ module _ (x : Script) (entry : ℕ) (fit : Auditable x entry) {q : ℕ} {k : Kno
     -- one step more
     after : slotRunOf name (runFor name log (suc steps) (begun s)) ≡ next scene slot-run
     after =
-        slot-follows x entry start (fit .fits) log (witness-valid x w) (suc steps)
+        slot-follows start (fit .fits) log (witness-valid w) (suc steps)
         ∙ slot-snoc scene steps (slotBegun (slotOf s name) (s .flags))
 
-    pub exited : {m : ℕ} → Reads x q Action.Exit m → Exited x q k (slotRunOf name (runFor name log (suc steps) (begun s)))
-    exited e = subst (Exited x q k) (sym after) (exit-step x log e agrees)
+    pub exited : {m : ℕ} → Reads x q Action.Exit m → Exited x ranges q k (slotRunOf name (runFor name log (suc steps) (begun s)))
+    exited e = subst (Exited x ranges q k) (sym after) (exit-step x ranges log e agrees)
 
     -- what it writes at an address with, and a word with, the start's own high half
     own-addr : {m : ℕ} (operand : ℕ) → Reads x q (Action.Poke Part.Low operand) m → k .addr ≡ KnownAddress.Unset
@@ -166,10 +164,10 @@ module _ (x : Script) (entry : ℕ) (fit : Auditable x entry) {q : ℕ} {k : Kno
 
   -- ---- two starts that write differently
 
-  differ : {name : SlotName} {s s′ : State} (one : StartIn name s) (two : StartIn name s′) {address word address′ word′ : ℕ}
+  differ : {name : SlotName} {s s′ : State} (one : Start x name s) (two : Start x name s′) {address word address′ word′ : ℕ}
       → effect one ≡ Effect.Wrote (record { 0 = address }) word → effect two ≡ Effect.Wrote (record { 0 = address′ }) word′
       → (address ≡ address′ → word ≡ word′ → ⊥)
-      → WriteDifferently (x .family) (x .code) (x .marks) entry (x .ranges) q (witness one) (witness two)
+      → WriteDifferently x q (witness one) (witness two)
   differ one two writes writes′ apart = record {
     same-slot = refl;
     same-log = refl;
@@ -186,15 +184,14 @@ module _ (x : Script) (entry : ℕ) (fit : Auditable x entry) {q : ℕ} {k : Kno
   }
 
   abbrev DifferIn : SlotName → State → State → Type 0
-  DifferIn = Differ (x .family) (x .code) (x .marks) entry (x .ranges) log (witness-valid x w) (witness-masks x w) steps q
+  DifferIn = Differ x log (witness-valid w) (witness-masks w) steps q
 
-  module _ {name : SlotName} {s : State} (start : StartIn name s) where
+  module _ {name : SlotName} {s : State} (start : Start x name s) where
     addr-differs : {m : ℕ} (operand : ℕ) → Reads x q (Action.Poke Part.Low operand) m → k .addr ≡ KnownAddress.Unset
-        → DifferIn name (withAddr (x .family) (x .code) (x .marks) entry (x .ranges) name s 0)
-        (withAddr (x .family) (x .code) (x .marks) entry (x .ranges) name s 65536)
+        → DifferIn name (withAddr name s 0) (withAddr name s 65536)
     addr-differs operand e unset =
-        let one = start-addr (x .ranges) start 0 (lit< tt) in
-        let two = start-addr (x .ranges) start 65536 (lit< tt) in
+        let one = start-addr start 0 (lit< tt) in
+        let two = start-addr start 65536 (lit< tt) in
         let g = own-addr one operand e unset in
         let h = own-addr two operand e unset in
         let low : g .0 / 65536 ≡ 0 = g .3 ∙ ap (λ (slot : Slot). slot .addr .0 / 65536) (slot-back name s _ (s .flags)) in
@@ -202,11 +199,10 @@ module _ (x : Script) (entry : ℕ) (fit : Auditable x entry) {q : ℕ} {k : Kno
         (one, two, differ one two (g .2) (h .2) (λ same _. omega (arith, low, high)))
 
     data-differs : {m : ℕ} (part : Part) (operand : ℕ) → Reads x q (Action.Poke part operand) m → k .«data» ≡ false
-        → DifferIn name (withData (x .family) (x .code) (x .marks) entry (x .ranges) name s 0)
-        (withData (x .family) (x .code) (x .marks) entry (x .ranges) name s 65536)
+        → DifferIn name (withData name s 0) (withData name s 65536)
     data-differs part operand e half =
-        let one = start-data (x .ranges) start 0 (lit< tt) in
-        let two = start-data (x .ranges) start 65536 (lit< tt) in
+        let one = start-data start 0 (lit< tt) in
+        let two = start-data start 65536 (lit< tt) in
         let g = own-data one part operand e half in
         let h = own-data two part operand e half in
         let low : g .1 / 65536 ≡ 0 = g .3 ∙ ap (λ (slot : Slot). slot .«data» / 65536) (slot-back name s _ (s .flags)) in
@@ -216,7 +212,7 @@ module _ (x : Script) (entry : ℕ) (fit : Auditable x entry) {q : ℕ} {k : Kno
     -- ---- the next step
 
     abbrev pub SeesIt : Fault → Type 0
-    SeesIt = Sees (x .family) (x .code) (x .marks) entry (x .ranges) log (witness-valid x w) (witness-masks x w) steps start q
+    SeesIt = Sees x log (witness-valid w) (witness-masks w) steps ranges start q
 
     -- the fetch fails
     pub refused-sees : (why : Unreadable) → fetchAt x q ≡ Decoded.Refused why → SeesIt (faultOf why)
@@ -229,7 +225,7 @@ module _ (x : Script) (entry : ℕ) (fit : Auditable x entry) {q : ℕ} {k : Kno
     refused-sees Unreadable.NotUploaded e = stops start Unreadable.NotUploaded e
 
     -- a judgement blames an action
-    pub blamed-sees : (action : Action) (m : ℕ) (fault : Fault) → Reads x q action m → Blame (x .family) (x .ranges) action k fault → SeesIt fault
+    pub blamed-sees : (action : Action) (m : ℕ) (fault : Fault) → Reads x q action m → Blame (x .family) ranges action k fault → SeesIt fault
     blamed-sees action m Fault.PastRam e b = absurd b
     blamed-sees action m Fault.NotUploaded e b = absurd b
     blamed-sees action m Fault.Unknown e b = absurd b
@@ -242,7 +238,7 @@ module _ (x : Script) (entry : ℕ) (fit : Auditable x entry) {q : ℕ} {k : Kno
       rw (poke-addr (b .0) (b .1) (slotOf s name .addr .0) (slot-run start .slot .addr .0) (b .2) (k .addr) (b .4) (agrees start .held)) (b .5),
     )
     blamed-sees action m Fault.Unreleased e b =
-        let h = subst (Stuck log) (sym (after start)) (stuck-there x (rw (b .2) at e) (b .3) log (agrees start .going)) in
+        let h = subst (Stuck log) (sym (after start)) (stuck-there (rw (b .2) at e) (b .3) log (agrees start .going)) in
         record { waits = h .waits; row = h .row; used = h .used }
     blamed-sees action m Fault.Paused e b = let h = exited start (rw (b .0) at e) in (h .idle, h .ip, h .paused ∙ b .1)
     blamed-sees action m Fault.Input e b = absurd b
@@ -250,43 +246,44 @@ module _ (x : Script) (entry : ℕ) (fit : Auditable x entry) {q : ℕ} {k : Kno
     -- ---- the verdict
 
     abbrev From : Verdict → Type 0
-    From v =
-        ShownFrom (x .family) (x .code) (x .marks) entry (x .ranges) log (witness-valid x w) (witness-masks x w) steps (writesOver (actionsOf x w)) v start
+    From v = ShownFrom x log (witness-valid w) (witness-masks w) steps ranges (writesOver (actionsOf w)) v start
 
     counted : runFor name log steps (begun s) .count ≡ steps
-    counted = ap (λ (r : SlotRun). r .count) (same start) ∙ omega (arith, agrees start .count, walk-counts x w)
+    counted = ap (λ (r : SlotRun). r .count) (same start) ∙ omega (arith, agrees start .count, walk-counts w)
 
-    wrote : length (runFor name log steps (begun s) .writes) ≡ writesOver (actionsOf x w)
-    wrote = ap (λ (r : SlotRun). length (r .writes)) (same start) ∙ omega (arith, agrees start .writes, walk-writes x w)
+    wrote : length (runFor name log steps (begun s) .writes) ≡ writesOver (actionsOf w)
+    wrote = ap (λ (r : SlotRun). length (r .writes)) (same start) ∙ omega (arith, agrees start .writes, walk-writes w)
 
     one-left : leftOf (log .clocks) (runFor name log steps (begun s) .place) ≡ 1
     one-left = ap (λ (r : SlotRun). leftOf (log .clocks) (r .place)) (same start) ∙ arrived start .one-left
 
     passed-by : suc (runFor name log steps (begun s) .ewaits) ≡ length (log .clocks)
-    passed-by = ap (λ (r : SlotRun). suc (r .ewaits)) (same start) ∙ arrived start .passed-by ∙ sym (length-map (witnessRows x w) (λ (r : Row). r .clocks))
+    passed-by =
+        ap (λ (r : SlotRun). suc (r .ewaits)) (same start)
+        ∙ arrived start .passed-by
+        ∙ sym (length-map (witnessRows w) (λ (r : Row). r .clocks))
 
     -- what the next step shows
-    shows : {v : Verdict} → Ends x q k v
-        → ShowsVerdict (x .family) (x .code) (x .marks) entry (x .ranges) log (witness-valid x w) (witness-masks x w) steps start v
+    shows : {v : Verdict} → Ends x ranges q k v → ShowsVerdict x log (witness-valid w) (witness-masks w) steps ranges start v
     shows (at-refused why e) = refused-sees why e
     shows (at-bad action n fault e b) = blamed-sees action n fault e b
     shows (at-exit n e unpaused) =
-        (omega (arith, walk-counts x w), exact-in x entry unpaused name (runFor name log (suc steps) (begun s)) (exited start e))
+        (omega (arith, walk-counts w), exact-in unpaused name (runFor name log (suc steps) (begun s)) (exited start e))
 
     -- and that the steps before it bring the start there
-    there : {v : Verdict} → Ends x q k v → AtPlace (x .family) (x .code) (x .marks) entry (x .ranges) name (placeOf v) (runFor name log steps (begun s))
+    there : {v : Verdict} → Ends x ranges q k v → AtPlace name (placeOf v) (runFor name log steps (begun s))
     there (at-refused why e) = brought start
     there (at-bad action n fault e b) = brought start
     there (at-exit n e unpaused) = brought start
 
-    shown-from : {v : Verdict} → Ends x q k v → From v
+    shown-from : {v : Verdict} → Ends x ranges q k v → From v
     shown-from ends =
         record { there = there ends; counted = counted; wrote = wrote; one-left = one-left; passed-by = passed-by; shows = shows ends }
 
-  pub shown-by : {v : Verdict} → Ends x q k v → ShownBy (x .family) (x .code) (x .marks) entry (x .ranges) log steps (writesOver (actionsOf x w)) v
+  pub shown-by : {v : Verdict} → Ends x ranges q k v → ShownBy x ranges log steps (writesOver (actionsOf w)) v
   shown-by ends = record {
-    valid = witness-valid x w;
-    masks = witness-masks x w;
-    few = rw (length-map (witnessRows x w) (λ (r : Row). r .clocks)) (witness-few x w);
+    valid = witness-valid w;
+    masks = witness-masks w;
+    few = rw (length-map (witnessRows w) (λ (r : Row). r .clocks)) (witness-few w);
     shown = λ start. shown-from start ends;
   }

@@ -3,7 +3,7 @@ use Prim.Native.Nat.{ℕ, zero, suc, _+_, _≤_}
 use mathlib.Core.Path.{_≡_, refl, ap}
 use mathlib.Core.Logic.{⊎-elim}
 use mathlib.Core.Bool.{true, _&&_}
-use mathlib.Core.List.{append-nil}
+use mathlib.Core.List.{List, append-nil}
 use native.Mathlib.Omega.{arith}
 use lib.ListN.{length}
 use Rattle.families.specs.Family.{pausesMemory}
@@ -17,7 +17,8 @@ use Rattle.turn.specs.Turn.{performOf}
 use Rattle.actions.specs.declared.actions.Action.{Action}
 use Rattle.run.specs.SlotRun.{SlotRun, slotRunFor}
 use Rattle.run.proofs.SlotRuns.{next-place}
-use Rattle.script.proofs.Scripts.{Script, Reads}
+use Rattle.script.specs.Script.{Script}
+use Rattle.script.proofs.Scripts.{Reads}
 use Rattle.verdict.specs.Demand3.{AllListed}
 use Rattle.verdict.specs.declared.verdicts.Knowledge.{Knowledge}
 use Rattle.verdict.proofs.Cases.{either}
@@ -25,7 +26,7 @@ use Rattle.verdict.proofs.Going.{sceneUnder, next, run-rests, performs}
 use Rattle.verdict.proofs.Walk.{Walk, here, more}
 use Rattle.verdict.proofs.Agreement.{Agree, Held, goes-on, held-up}
 
-module _ (x : Script) where
+module _ (x : Script) (ranges : List ℕ) where
   -- a run that stands at exit, with the auditor's numbers
   pub record Exited (q : ℕ) (l : Knowledge) (r : SlotRun) : Type 0 where
     pub idle : r .slot .mode ≡ Mode.Idle
@@ -34,18 +35,18 @@ module _ (x : Script) where
     pub counted : r .count ≡ l .count + 1
     pub wrote : length (r .writes) ≡ l .writes
     pub waited : r .waits ≡ l .clocks
-    pub listed : AllListed (x .ranges) (r .writes)
+    pub listed : AllListed ranges (r .writes)
 
   module _ (log : Log) where
     -- how a run stands: before an action at a place no lower than this, held up, or at exit
     pub data Stands (q : ℕ) (l : Knowledge) (low : ℕ) (r : SlotRun) : Type 0 where
-      goes : {addr word p n : ℕ} {k : Knowledge} {action : Action} → Reads x p action n → Agree x addr word p k r → low ≤ p → Stands q l low r
-      waits : Held x log r → Stands q l low r
+      goes : {addr word p n : ℕ} {k : Knowledge} {action : Action} → Reads x p action n → Agree x ranges addr word p k r → low ≤ p → Stands q l low r
+      waits : Held ranges log r → Stands q l low r
       exits : Exited q l r → Stands q l low r
 
     module _ {q m : ℕ} {l : Knowledge} (e : Reads x q Action.Exit m) where
       -- exit's own turn
-      pub exit-step : {addr word : ℕ} {r : SlotRun} → Agree x addr word q l r → Exited q l (next (sceneUnder x log) r)
+      pub exit-step : {addr word : ℕ} {r : SlotRun} → Agree x ranges addr word q l r → Exited q l (next (sceneUnder x log) r)
       unfolding performOf
       exit-step g = rw (performs x true log (g .going) e) (record {
         idle = refl;
@@ -57,7 +58,7 @@ module _ (x : Script) where
         listed = rw append-nil (g .listed);
       })
 
-      pub sound : validLog log ≡ true → {addr word p : ℕ} {k : Knowledge} {r : SlotRun} → Walk x p k q l → Agree x addr word p k r
+      pub sound : validLog log ≡ true → {addr word p : ℕ} {k : Knowledge} {r : SlotRun} → Walk x ranges p k q l → Agree x ranges addr word p k r
           → validPlace (log .clocks) (r .place) ≡ true → (n low : ℕ) → low ≤ p + n → Stands q l low (slotRunFor (sceneUnder x log) n r)
       unfolding slotRunFor
       sound valid here g v zero low h = goes e g (omega arith)
@@ -66,6 +67,6 @@ module _ (x : Script) where
           rw (run-rests (sceneUnder x log) (next (sceneUnder x log) r) (ap isRunning (s .idle)) n) (exits s)
       sound valid (more action t f j w) g v zero low h = goes f g (omega arith)
       sound valid {r = r} (more action t f j w) g v (suc n) low h =
-          ⊎-elim (λ d. sound valid w (goes-on x log g f j d) (next-place (sceneUnder x log) valid r v) n low (omega (arith, f .some)))
-          (λ d. let s = held-up x log g f j v d in rw (run-rests (sceneUnder x log) (next (sceneUnder x log) r) (ap isRunning (s .waiting)) n) (waits s))
+          ⊎-elim (λ d. sound valid w (goes-on log g f j d) (next-place (sceneUnder x log) valid r v) n low (omega (arith, f .some)))
+          (λ d. let s = held-up log g f j v d in rw (run-rests (sceneUnder x log) (next (sceneUnder x log) r) (ap isRunning (s .waiting)) n) (waits s))
           (either (elapsedOf action log (r .place) .finished))

@@ -26,7 +26,8 @@ use Rattle.machine.specs.declared.steps.Stepped.{Stepped}
 use Rattle.run.specs.Run.{begun, nextStep, runFor}
 use Rattle.verdict.specs.Demand3.{withAddr, withData}
 use Rattle.verdict.specs.Start.{SlotInType, InType, Start}
-use Rattle.script.proofs.Scripts.{Script, Fits, Auditable}
+use Rattle.script.specs.Script.{Script}
+use Rattle.script.proofs.Scripts.{Fits, Auditable}
 use Rattle.run.specs.SlotRun.{slotBegun, nextTurn, slotRunFor, slotAtEntry, stateWith, slotRunOf, Holds}
 use Rattle.run.proofs.Held.{filled-size, filledScene, filled-marks, filled-code}
 use Rattle.run.proofs.InState.{run-back, follows, next-follows}
@@ -35,8 +36,9 @@ use Rattle.verdict.proofs.Agreement.{Agree}
 
 -- ---- every start
 
-module _ (x : Script) (entry : ℕ) {name : SlotName} {s : State} (start : Start (x .family) (x .code) (x .marks) entry name s) where
-  pub begun-agrees : Agree x (slotOf s name .addr .0) (slotOf s name .«data») entry knowNothing (slotBegun (slotOf s name) (s .flags))
+module _ {x : Script} {name : SlotName} {s : State} (start : Start x name s) where
+  pub begun-agrees : {ranges : List ℕ}
+      → Agree x ranges (slotOf s name .addr .0) (slotOf s name .«data») (x .entry) knowNothing (slotBegun (slotOf s name) (s .flags))
   begun-agrees = record {
     going = record { runs = start .executing; ip = start .at-entry };
     held = refl;
@@ -49,7 +51,7 @@ module _ (x : Script) (entry : ℕ) {name : SlotName} {s : State} (start : Start
   }
 
   -- its turns read the script, whatever bytes were never uploaded
-  module _ (fit : Fits (x .family) (x .code) (x .marks) entry) (log : Log) where
+  module _ (fit : Fits x) (log : Log) where
     pub holds : Holds (sceneUnder x log) (slotOf s name) (s .flags) name s
     holds =
         let fetches = same-fetch (x .family) (x .code) (x .marks) (s .code) (s .marks) (omega (arith, fit .code-size))
@@ -90,11 +92,11 @@ plain-bytes (m ∷ marks) p zero = omega (arith, leb-true m 1 (both-left (leb m 
 plain-bytes (m ∷ marks) p (suc i) = plain-bytes marks (both-right (leb m 1) (marksPlain marks) p) i
 
 -- slot A runs the script with this ADDR and DATA, all else is fresh
-abbrev pub someState : Script → ℕ → ℕ → ℕ → State
-someState x entry addr word = stateWith (filledScene (sceneUnder x (logOf [] [] []))) (slotAtEntry entry addr word) (record { values = 0; enables = 0 })
+abbrev pub someState : Script → ℕ → ℕ → State
+someState x addr word = stateWith (filledScene (sceneUnder x (logOf [] [] []))) (slotAtEntry (x .entry) addr word) (record { values = 0; enables = 0 })
 
-module _ (x : Script) (entry : ℕ) (fit : Auditable x entry) (addr word : ℕ) (small-addr : addr < 2 ^ 32) (small-word : word < 2 ^ 32) where
-  some-in-type : InType (someState x entry addr word)
+module _ {x : Script} (fit : Auditable x) (addr word : ℕ) (small-addr : addr < 2 ^ 32) (small-word : word < 2 ^ 32) where
+  some-in-type : InType (someState x addr word)
   some-in-type =
       let fam = bounds 1 (x .family) 4 (fit .fits .known) in
       let size = size-small (x .family) in
@@ -112,14 +114,14 @@ module _ (x : Script) (entry : ℕ) (fit : Auditable x entry) (addr word : ℕ) 
         b = record { ip = omega arith; addr = omega arith; word = omega arith };
       }
 
-  pub some-start : Start (x .family) (x .code) (x .marks) entry SlotName.A (someState x entry addr word)
+  pub some-start : Start x SlotName.A (someState x addr word)
   unfolding overrides1
   some-start = record {
     in-type = some-in-type;
     same-family = refl;
     slot-there = has-a (x .family) (fit .fits .known);
-    uploaded = filled-marks (sceneUnder x (logOf [] [] [])) (fit .fits);
-    as-audited = λ i h _. filled-code (sceneUnder x (logOf [] [] [])) (fit .fits) i h;
+    uploaded = filled-marks x (fit .fits);
+    as-audited = λ i h _. filled-code x (fit .fits) i h;
     executing = refl;
     at-entry = refl;
     other-idle = λ _. refl;
@@ -161,11 +163,12 @@ in-type-with i small-a small-b = record {
 abbrev registersSet : Slot → ℕ → ℕ → Slot
 registersSet slot addr word = record { mode = slot .mode; ip = slot .ip; addr = record { 0 = addr }; «data» = word }
 
-module _ {family : ℕ} {code marks : List ℕ} {entry : ℕ} where
-  start-with : {name : SlotName} {s : State} {a b : Slot} → Start family code marks entry name s → SlotInType a → SlotInType b
-      → (name′ : SlotName) → hasSlot family name′ ≡ true → slotOf (withSlots s a b) name′ .mode ≡ Mode.Running → slotOf (withSlots s a b) name′ .ip .0 ≡ entry
-      → (hasSlot family (otherOf name′) ≡ true → slotOf (withSlots s a b) (otherOf name′) .mode ≡ Mode.Idle)
-      → Start family code marks entry name′ (withSlots s a b)
+module _ {x : Script} where
+  start-with : {name : SlotName} {s : State} {a b : Slot} → Start x name s → SlotInType a → SlotInType b
+      → (name′ : SlotName) → hasSlot (x .family) name′ ≡ true
+      → slotOf (withSlots s a b) name′ .mode ≡ Mode.Running → slotOf (withSlots s a b) name′ .ip .0 ≡ x .entry
+      → (hasSlot (x .family) (otherOf name′) ≡ true → slotOf (withSlots s a b) (otherOf name′) .mode ≡ Mode.Idle)
+      → Start x name′ (withSlots s a b)
   start-with start small-a small-b name′ there runs at idle = record {
     in-type = in-type-with (start .in-type) small-a small-b;
     same-family = start .same-family;
@@ -180,15 +183,15 @@ module _ {family : ℕ} {code marks : List ℕ} {entry : ℕ} where
   }
 
   -- the same in slot B
-  start-exchanged : {s : State} → Start family code marks entry SlotName.A s → hasSlot family SlotName.B ≡ true
-      → Start family code marks entry SlotName.B (withSlots s (s .b) (s .a))
+  start-exchanged : {s : State} → Start x SlotName.A s → hasSlot (x .family) SlotName.B ≡ true
+      → Start x SlotName.B (withSlots s (s .b) (s .a))
   start-exchanged start there =
       start-with start (start .in-type .b) (start .in-type .a) SlotName.B there (start .executing) (start .at-entry) (λ _. start .other-idle there)
 
   -- and with another number in ADDR, or in DATA
-  start-registers : (name : SlotName) {s : State} {addr word : ℕ} → Start family code marks entry name s
+  start-registers : (name : SlotName) {s : State} {addr word : ℕ} → Start x name s
       → (SlotInType (slotOf s name) → (addr < 2 ^ 32) × (word < 2 ^ 32))
-      → Start family code marks entry name (withSlot s name (registersSet (slotOf s name) addr word) (s .flags))
+      → Start x name (withSlot s name (registersSet (slotOf s name) addr word) (s .flags))
   start-registers SlotName.A start small =
       let i = start .in-type in
       let h = small (i .a) in
@@ -200,14 +203,14 @@ module _ {family : ℕ} {code marks : List ℕ} {entry : ℕ} where
       start-with start (i .a) (record { ip = i .b .ip; addr = h .0; word = h .1 })
       SlotName.B (start .slot-there) (start .executing) (start .at-entry) (start .other-idle)
 
-  module _ (ranges : List ℕ) {name : SlotName} {s : State} (start : Start family code marks entry name s) where
-    pub start-addr : (addr : ℕ) → addr < 2 ^ 32 → Start family code marks entry name (withAddr family code marks entry ranges name s addr)
+  module _ {name : SlotName} {s : State} (start : Start x name s) where
+    pub start-addr : (addr : ℕ) → addr < 2 ^ 32 → Start x name (withAddr name s addr)
     start-addr addr h = start-registers name start (λ i. (h, i .word))
 
-    pub start-data : (word : ℕ) → word < 2 ^ 32 → Start family code marks entry name (withData family code marks entry ranges name s word)
+    pub start-data : (word : ℕ) → word < 2 ^ 32 → Start x name (withData name s word)
     start-data word h = start-registers name start (λ i. (i .addr, h))
 
 -- every slot of the family has a start
-pub starts-in : (x : Script) (entry : ℕ) → Auditable x entry → (name : SlotName) → hasSlot (x .family) name ≡ true → (s : State) × (Start (x .family) (x .code) (x .marks) entry name s)
-starts-in x entry fit SlotName.A there = (someState x entry 0 0, some-start x entry fit 0 0 (lit< tt) (lit< tt))
-starts-in x entry fit SlotName.B there = (withSlots (someState x entry 0 0) _ _, start-exchanged (some-start x entry fit 0 0 (lit< tt) (lit< tt)) there)
+pub starts-in : (x : Script) → Auditable x → (name : SlotName) → hasSlot (x .family) name ≡ true → (s : State) × (Start x name s)
+starts-in x fit SlotName.A there = (someState x 0 0, some-start fit 0 0 (lit< tt) (lit< tt))
+starts-in x fit SlotName.B there = (withSlots (someState x 0 0) _ _, start-exchanged (some-start fit 0 0 (lit< tt) (lit< tt)) there)

@@ -18,7 +18,8 @@ use Rattle.log.specs.Validity.{rowsInRange, validLog}
 use Rattle.log.specs.declared.row.Row.{Row}
 use Rattle.actions.specs.Action.{actionOf}
 use Rattle.actions.specs.declared.actions.Action.{Action}
-use Rattle.script.proofs.Scripts.{Script, Formed, Reads}
+use Rattle.script.specs.Script.{Script}
+use Rattle.script.proofs.Scripts.{Formed, Reads}
 use Rattle.verdict.specs.Auditor.{canRelease, Releasable, waitLength, knowNext, knowNothing}
 use Rattle.verdict.specs.Start.{MasksInType}
 use Rattle.verdict.specs.Witness.{firstRow, eventRow, releases, rowAfter, rowsEnded, rowsOver, maxShown}
@@ -45,7 +46,7 @@ pub record Bounded (p : ℕ) (k : Knowledge) : Type 0 where
 pub bounded-next : {p n : ℕ} {k : Knowledge} (action : Action) → Formed action → 0 < n → Bounded p k → Bounded (p + n) (knowNext action k)
 bounded-next action f h b = let short = wait-short action f in record { count = omega (arith, b .count); clocks = omega (arith, b .clocks) }
 
-pub bounded : {x : Script} {p q : ℕ} {k l : Knowledge} → Walk x p k q l → Bounded p k → Bounded q l
+pub bounded : {x : Script} {ranges : List ℕ} {p q : ℕ} {k l : Knowledge} → Walk x ranges p k q l → Bounded p k → Bounded q l
 bounded here b = b
 bounded (more action n e f w) b = bounded w (bounded-next action (e .formed) (e .some) b)
 
@@ -58,7 +59,8 @@ bounded-start = record { count = omega arith; clocks = omega arith }
 pub row-mask : (event value : ℕ) → canRelease event value ≡ true → (eventRow event value .known < 2 ^ 32) × (eventRow event value .values < 2 ^ 32)
 unfolding canRelease
 row-mask event value c =
-    let small = ltb-true (2 ^ event) (2 ^ 32) (below-at 32 (λ i. ltb (2 ^ i) (2 ^ 32)) refl event (ltb-true event 32 (both-left (ltb event 32) (ltb value 2) c))) in
+    let event-small = ltb-true event 32 (both-left (ltb event 32) (ltb value 2) c) in
+    let small = ltb-true (2 ^ event) (2 ^ 32) (below-at 32 (λ i. ltb (2 ^ i) (2 ^ 32)) refl event event-small) in
     (small, by value (ltb-true value 2 (both-right (ltb event 32) (ltb value 2) c)) small)
   where
     by : (v : ℕ) → v < 2 → 2 ^ event < 2 ^ 32 → v * 2 ^ event < 2 ^ 32
@@ -155,38 +157,38 @@ left-size (Instruction.Set0 f) n row e = omega arith
 left-size (Instruction.Addr a) n row e = omega arith
 left-size (Instruction.Data d) n row e = omega arith
 
-module _ (x : Script) where
-  pub reads-size : {p n : ℕ} {action : Action} (e : Reads x p action n) (row : Row) → 3 * length (rowsEnded action row) ≤ n
-  reads-size {p} {n} e row =
-      let lies = rw (e .found) at (fetch-lies (x .family) (x .code) (x .marks) p) in
-      rw (e .acts) at (left-size (e .instruction) n row (lies .0))
+pub reads-size : {x : Script} {p n : ℕ} {action : Action} (e : Reads x p action n) (row : Row) → 3 * length (rowsEnded action row) ≤ n
+reads-size {x} {p} {n} e row =
+    let lies = rw (e .found) at (fetch-lies (x .family) (x .code) (x .marks) p) in
+    rw (e .acts) at (left-size (e .instruction) n row (lies .0))
 
-  rows-most : {p q : ℕ} {k l : Knowledge} (w : Walk x p k q l) (row : Row) → 3 * length (rowsOver (actionsOf x w) row) ≤ 3 + (codeSize (x .family) - p)
+module _ {x : Script} {ranges : List ℕ} where
+  rows-most : {p q : ℕ} {k l : Knowledge} (w : Walk x ranges p k q l) (row : Row) → 3 * length (rowsOver (actionsOf w) row) ≤ 3 + (codeSize (x .family) - p)
   rows-most here row = omega arith
   rows-most (more action n e f w) row =
       let next = rowAfter action row in
-      omega (arith, length-append (rowsEnded action row) (rowsOver (actionsOf x w) next), reads-size e row, rows-most w next, e .inside)
+      omega (arith, length-append (rowsEnded action row) (rowsOver (actionsOf w) next), reads-size e row, rows-most w next, e .inside)
 
-  pub witness-few : {p q : ℕ} {k l : Knowledge} (w : Walk x p k q l) → length (witnessRows x w) ≤ maxShown
+  pub witness-few : {p q : ℕ} {k l : Knowledge} (w : Walk x ranges p k q l) → length (witnessRows w) ≤ maxShown
   witness-few w = omega (arith, rows-most w firstRow, size-small (x .family))
 
-  in-log : {p q : ℕ} {k l : Knowledge} (w : Walk x p k q l) (row : Row) → Bounded p k → k .clocks ≤ longest → RowFits (k .clocks) row
-      → InLog (rowsOver (actionsOf x w) row)
+  in-log : {p q : ℕ} {k l : Knowledge} (w : Walk x ranges p k q l) (row : Row) → Bounded p k → k .clocks ≤ longest → RowFits (k .clocks) row
+      → InLog (rowsOver (actionsOf w) row)
   in-log here row b h m = one-more row [] m h no-rows
   in-log {k = k} (more action n e f w) row b h m =
       let next = bounded-next action (e .formed) (e .some) b in
-      left-more action row (rowsOver (actionsOf x w) (rowAfter action row)) m h
+      left-more action row (rowsOver (actionsOf w) (rowAfter action row)) m h
       (in-log w (rowAfter action row) next (omega (arith, next .count, next .clocks, e .inside, size-small (x .family)))
       (row-fits-after action row (k .clocks) (f .event) m))
 
-  module _ {entry q : ℕ} {l : Knowledge} (w : Walk x entry knowNothing q l) where
-    rows-in-log : InLog (witnessRows x w)
+  module _ {entry q : ℕ} {l : Knowledge} (w : Walk x ranges entry knowNothing q l) where
+    rows-in-log : InLog (witnessRows w)
     rows-in-log = in-log w firstRow bounded-start (omega arith) first-fits
 
-    pub witness-valid : validLog (witnessLog x w) ≡ true
+    pub witness-valid : validLog (witnessLog w) ≡ true
     unfolding validLog
     witness-valid =
-        let rows = witnessRows x w in
+        let rows = witnessRows w in
         let n = length rows in
         rw (
           length-map rows (λ (r : Row). r .clocks),
@@ -197,5 +199,5 @@ module _ (x : Script) where
           rows-in-log .range,
         ) refl
 
-    pub witness-masks : MasksInType (witnessLog x w)
+    pub witness-masks : MasksInType (witnessLog w)
     witness-masks = rows-in-log .masks

@@ -25,7 +25,7 @@ use Rattle.state.specs.declared.slots.Slot.{Slot}
 use Rattle.turn.specs.Turn.{performOf}
 use Rattle.turn.specs.declared.turn.Turn.{Turn}
 use Rattle.run.specs.SlotRun.{SlotRun, slotBegun, slotRunFor}
-use Rattle.script.proofs.Scripts.{Script}
+use Rattle.script.specs.Script.{Script}
 use Rattle.verdict.specs.Auditor.{canRelease, Releasable, knowNothing}
 use Rattle.verdict.specs.Witness.{firstRow, eventRow, releases, rowAfter, rowsEnded, rowsOver}
 use Rattle.verdict.specs.declared.verdicts.Knowledge.{Knowledge}
@@ -161,39 +161,40 @@ module _ (log : List Row) where
 -- ---- the whole walk
 
 -- the rows made for it
-abbrev pub witnessRows : (x : Script) {p : ℕ} {k : Knowledge} {q : ℕ} {l : Knowledge} → Walk x p k q l → List Row
-witnessRows x w = rowsOver (actionsOf x w) firstRow
+module _ {x : Script} {ranges : List ℕ} {p : ℕ} {k : Knowledge} {q : ℕ} {l : Knowledge} (w : Walk x ranges p k q l) where
+  abbrev pub witnessRows : List Row
+  witnessRows = rowsOver (actionsOf w) firstRow
 
-abbrev pub witnessLog : (x : Script) {p : ℕ} {k : Knowledge} {q : ℕ} {l : Knowledge} → Walk x p k q l → Log
-witnessLog x w = logIn (witnessRows x w)
+  abbrev pub witnessLog : Log
+  witnessLog = logIn witnessRows
 
 -- a run at the end of the walk, with one clock of the log left, where ewaits passed by so many but for one
-pub record Arrived (x : Script) (log : Log) (addr word q : ℕ) (l : Knowledge) (passed : ℕ) (r : SlotRun) : Type 0 where
-  pub agrees : Agree x addr word q l r
+pub record Arrived (x : Script) (ranges : List ℕ) (log : Log) (addr word q : ℕ) (l : Knowledge) (passed : ℕ) (r : SlotRun) : Type 0 where
+  pub agrees : Agree x ranges addr word q l r
   pub one-left : leftOf (log .clocks) (r .place) ≡ 1
   pub passed-by : suc (r .ewaits) ≡ passed
 
-module _ (x : Script) (log : List Row) where
-  reach-on : {addr word p q : ℕ} {k l : Knowledge} {r : SlotRun} (w : Walk x p k q l) (row : Row) → Agree x addr word p k r
-      → On log (r .place) row (rowsOver (actionsOf x w) row)
-      → Arrived x (logIn log) addr word q l (length (rowsOver (actionsOf x w) row) + r .ewaits)
-      (slotRunFor (sceneUnder x (logIn log)) (length (actionsOf x w)) r)
+module _ {x : Script} {ranges : List ℕ} (log : List Row) where
+  reach-on : {addr word p q : ℕ} {k l : Knowledge} {r : SlotRun} (w : Walk x ranges p k q l) (row : Row) → Agree x ranges addr word p k r
+      → On log (r .place) row (rowsOver (actionsOf w) row)
+      → Arrived x ranges (logIn log) addr word q l (length (rowsOver (actionsOf w) row) + r .ewaits)
+      (slotRunFor (sceneUnder x (logIn log)) (length (actionsOf w)) r)
   unfolding slotRunFor performOf
   reach-on {r = r} here row g o = record { agrees = g; one-left = last-left log (r .place) row o; passed-by = omega arith }
   reach-on {r = r} (more action n e f w) row g o =
       let next = rowAfter action row in
-      let t = finishes log action (r .place) row (rowsOver (actionsOf x w) next) (f .event) (continues (actionsOf x w) next) o in
+      let t = finishes log action (r .place) row (rowsOver (actionsOf w) next) (f .event) (continues (actionsOf w) next) o in
       let does = performs x true (logIn log) (g .going) e in
-      let rest = reach-on w next (goes-on x (logIn log) g e f (t .finished)) (rw (ap (λ (turn : Turn). turn .place) does) (t .on)) in
+      let rest = reach-on w next (goes-on (logIn log) g e f (t .finished)) (rw (ap (λ (turn : Turn). turn .place) does) (t .on)) in
       let searched = ap (λ (turn : Turn). turn .searched) does in
-      let sum = length-append (rowsEnded action row) (rowsOver (actionsOf x w) next) in
+      let sum = length-append (rowsEnded action row) (rowsOver (actionsOf w) next) in
       record { agrees = rest .agrees; one-left = rest .one-left; passed-by = omega (arith, rest .passed-by, searched, t .passed, sum) }
 
 -- a start, under the log made for a walk from it, comes to where the walk ends
-pub reach : (x : Script) {entry q : ℕ} {l : Knowledge} (w : Walk x entry knowNothing q l) {addr word : ℕ} {slot : Slot} {flags : Flags}
-    → Agree x addr word entry knowNothing (slotBegun slot flags)
-    → Arrived x (witnessLog x w) addr word q l (length (witnessRows x w))
-    (slotRunFor (sceneUnder x (witnessLog x w)) (length (actionsOf x w)) (slotBegun slot flags))
-reach x w g =
-    let a = reach-on x (witnessRows x w) w firstRow g (record { ahead = refl; used = refl }) in
+pub reach : {x : Script} {ranges : List ℕ} {entry q : ℕ} {l : Knowledge} (w : Walk x ranges entry knowNothing q l)
+    → {addr word : ℕ} {slot : Slot} {flags : Flags} → Agree x ranges addr word entry knowNothing (slotBegun slot flags)
+    → Arrived x ranges (witnessLog w) addr word q l (length (witnessRows w))
+    (slotRunFor (sceneUnder x (witnessLog w)) (length (actionsOf w)) (slotBegun slot flags))
+reach w g =
+    let a = reach-on (witnessRows w) w firstRow g (record { ahead = refl; used = refl }) in
     record { agrees = a .agrees; one-left = a .one-left; passed-by = omega (arith, a .passed-by) }

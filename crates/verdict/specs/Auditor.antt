@@ -6,16 +6,14 @@ use mathlib.Core.List.{List}
 use lib.Dec.{ltb, eqb}
 use Rattle.refusals.specs.Number.{faultNumber}
 use Rattle.families.specs.Family.{codeSize, pausesMemory}
-use Rattle.isa.specs.declared.addresses.CodeAddress.{CodeAddress}
-use Rattle.isa.specs.declared.addresses.MmioAddress.{MmioAddress}
 use Rattle.isa.specs.declared.instructions.Instruction.{Instruction}
 use Rattle.isa.specs.declared.reader.Decoded.{Decoded}
 use Rattle.refusals.specs.declared.refusals.Unreadable.{Unreadable}
-use Rattle.fetch.specs.Fetch.{fetchOf}
 use Rattle.actions.specs.Action.{actionOf, mergeOf}
 use Rattle.actions.specs.declared.actions.Action.{Action}
 use Rattle.flags.specs.declared.flags.Change.{Change}
 use Rattle.actions.specs.declared.actions.Part.{Part}
+use Rattle.script.specs.Script.{Script, fetchAt}
 use Rattle.script.specs.Input.{listedIn, inputFits}
 use Rattle.refusals.specs.declared.refusals.Fault.{Fault}
 use Rattle.verdict.specs.declared.verdicts.Judgement.{Judgement}
@@ -142,23 +140,25 @@ abbrev pub faultAt : Fault → ℕ → Verdict
 faultAt fault at = Verdict.Fault fault (record { 0 = at })
 
 -- the verdict from a place on, where at most so many instructions are left; with none left the place lies past the code RAM
-unfoldable pub verdictIn : ℕ → ℕ → List ℕ → List ℕ → List ℕ → ℕ → Knowledge → Verdict
-verdictIn zero family code marks ranges at k = faultAt Fault.PastRam at
-verdictIn (suc left) family code marks ranges at k = elim (fetchOf family code marks at) [
-  | Decoded.Instruction i n ↦ elim (judgeOf family ranges (actionOf i) k) [
-    | Judgement.Fine ↦ verdictIn left family code marks ranges (at + n) (knowNext (actionOf i) k)
+unfoldable pub verdictIn : ℕ → Script → List ℕ → ℕ → Knowledge → Verdict
+verdictIn zero script ranges at k = faultAt Fault.PastRam at
+verdictIn (suc left) script ranges at k = elim (fetchAt script at) [
+  | Decoded.Instruction i n ↦ elim (judgeOf (script .family) ranges (actionOf i) k) [
+    | Judgement.Fine ↦ verdictIn left script ranges (at + n) (knowNext (actionOf i) k)
     | Judgement.Exit ↦ passAt at k
     | Judgement.Bad fault ↦ faultAt fault at
   ]
   | Decoded.Refused why ↦ faultAt (faultOf why) at
 ]
 
--- 9 first, at place 0; then the walk, in which each instruction takes a byte of the code RAM at least
-unfoldable pub auditOf : ℕ → List ℕ → List ℕ → ℕ → List ℕ → Verdict
-auditOf family code marks entry ranges =
-    cond (inputFits family code marks entry ranges) (verdictIn (codeSize family) family code marks ranges entry knowNothing) (faultAt Fault.Input 0)
+-- the whole walk, in which each instruction takes a byte of the code RAM at least
+abbrev pub walkOf : Script → List ℕ → Verdict
+walkOf script ranges = verdictIn (codeSize (script .family)) script ranges (script .entry) knowNothing
+
+-- 9 first, at place 0; then the walk
+unfoldable pub auditOf : Script → List ℕ → Verdict
+auditOf script ranges = cond (inputFits script ranges) (walkOf script ranges) (faultAt Fault.Input 0)
 
 -- the number that the verdict must have: 9 where its row says, tested first, and else what the walk comes to, 0 for a pass
-unfoldable pub auditNumber : ℕ → List ℕ → List ℕ → ℕ → List ℕ → ℕ
-auditNumber family code marks entry ranges =
-    cond (not (inputFits family code marks entry ranges)) 9 (verdictNumber (verdictIn (codeSize family) family code marks ranges entry knowNothing))
+unfoldable pub auditNumber : Script → List ℕ → ℕ
+auditNumber script ranges = cond (not (inputFits script ranges)) 9 (verdictNumber (walkOf script ranges))

@@ -9,18 +9,20 @@ use Rattle.families.specs.Family.{codeSize}
 use Rattle.refusals.specs.declared.refusals.Unreadable.{Unreadable}
 use Rattle.log.specs.Log.{Log}
 use Rattle.log.specs.Validity.{validLog}
-use Rattle.flags.specs.Flags.{pausedOf, flagsWord0, flagsWord1, flagsFromWords}
+use Rattle.flags.specs.Flags.{pausedOf}
 use Rattle.flags.specs.declared.flags.Flags.{Flags}
 use Rattle.state.specs.Slot.{hasSlot, slotOf, withSlot}
 use Rattle.state.specs.declared.slots.Mode.{Mode}
 use Rattle.state.specs.declared.slots.SlotName.{SlotName}
 use Rattle.state.specs.declared.state.State.{State}
 use Rattle.turn.specs.declared.turn.Effect.{Effect}
+use Rattle.script.specs.Script.{Script}
 use Rattle.script.specs.Input.{listedIn, scriptFits, inputFits}
 use Rattle.run.specs.Run.{Run, Write, begun, nextStep, runFor}
-use Rattle.run.specs.SlotRun.{sceneFor, slotAtEntry, slotRunOf, Holds}
+use Rattle.run.specs.SlotRun.{scriptScene, slotAtEntry, slotRunOf, Holds}
 use Rattle.run.specs.MoreLog.{Unfinished, RowsAdded, ReadingsFilled}
-use Rattle.run.specs.Replay.{maxEntries, fullSlotRun, fullRun, progressOf, endingOf, toldOf, replayOf}
+use Rattle.run.specs.Registers.{registersIn}
+use Rattle.run.specs.Replay.{maxEntries, fullRun, progressOf, endingOf, toldOf, replayedRun, replayOf}
 use Rattle.verdict.specs.Start.{Start, MasksInType}
 use Rattle.refusals.specs.declared.refusals.Fault.{Fault}
 use Rattle.verdict.specs.declared.verdicts.Verdict.{Verdict}
@@ -58,26 +60,37 @@ EndsWell Ending.Poke = Unit {0}
 EndsWell Ending.Hang = ⊥
 EndsWell Ending.Stop = ⊥
 
--- one audited script
-module _ (family : ℕ) (code marks : List ℕ) (entry : ℕ) (ranges : List ℕ) where
-  -- the slot whose run is spoken of
-  module _ (name : SlotName) where
-    -- the next step fetches at the place
-    pub record AtPlace (place : ℕ) (r : Run) : Type 0 where
-      pub runs : slotOf (r .state) name .mode ≡ Mode.Running
-      pub ip : slotOf (r .state) name .ip .0 ≡ place
+-- ---- where the run of a slot stands
 
+module _ (name : SlotName) where
+  -- the next step fetches at the place
+  pub record AtPlace (place : ℕ) (r : Run) : Type 0 where
+    pub runs : slotOf (r .state) name .mode ≡ Mode.Running
+    pub ip : slotOf (r .state) name .ip .0 ≡ place
+
+  -- in a wait with the log used up
+  pub record InWait (log : Log) (r : Run) : Type 0 where
+    pub waits : Unfinished name r
+    pub row : r .place .row ≡ length (log .clocks)
+    pub used : r .place .used ≡ 0
+
+-- the state with another ADDR, or another DATA, in a slot, and else the same
+abbrev pub withAddr : SlotName → State → ℕ → State
+withAddr name s addr = let slot = slotOf s name in
+    withSlot s name (record { mode = slot .mode; ip = slot .ip; addr = record { 0 = addr }; «data» = slot .«data» }) (s .flags)
+
+abbrev pub withData : SlotName → State → ℕ → State
+withData name s word = let slot = slotOf s name in
+    withSlot s name (record { mode = slot .mode; ip = slot .ip; addr = slot .addr; «data» = word }) (s .flags)
+
+-- one audited script
+module _ (script : Script) where
+  module _ (name : SlotName) where
     -- exit's step is done: IP on it, slot idle, as no step but exit's leaves it, and memory runs
     pub record AtExit (place : ℕ) (r : Run) : Type 0 where
       pub idle : slotOf (r .state) name .mode ≡ Mode.Idle
       pub ip : slotOf (r .state) name .ip .0 ≡ place
-      pub memory-runs : pausedOf family (r .state .flags) ≡ false
-
-    -- in a wait with the log used up
-    pub record InWait (log : Log) (r : Run) : Type 0 where
-      pub waits : Unfinished name r
-      pub row : r .place .row ≡ length (log .clocks)
-      pub used : r .place .used ≡ 0
+      pub memory-runs : pausedOf (script .family) (r .state .flags) ≡ false
 
     -- the numbers of the verdict are the run's
     pub record Exact (place count writes waitClocks : ℕ) (r : Run) : Type 0 where
@@ -86,64 +99,24 @@ module _ (family : ℕ) (code marks : List ℕ) (entry : ℕ) (ranges : List ℕ
       pub wrote : length (r .writes) ≡ writes
       pub waited : r .waits ≡ waitClocks
 
-    -- what holds of a run of a passed script after n steps
-    pub record Safe (place count writes waitClocks : ℕ) (log : Log) (n : ℕ) (r : Run) : Type 0 where
-      -- "wrote only listed addresses"
-      pub listed : AllListed ranges (r .writes)
-      -- "met no unknown opcode, never left the uploaded code", none of its steps refused: said of the next step, after any number of steps
-      pub orderly : Orderly (nextStep name log r .effect)
-      -- "ends at exit with memory running or in a wait with the log used up"
-      pub ended : codeSize family ≤ n → (AtExit place r) ⊎ (InWait log r)
-      -- "with exactly the reported place and counts"
-      pub exact : slotOf (r .state) name .mode ≡ Mode.Idle → Exact place count writes waitClocks r
-
-  -- replay of a start's values, with entries enough lent, tells the run's own ending, state, place, steps and sums, and its writes in order
+  -- replay with a start's registers, with entries enough lent, tells the run's own ending, state, place, steps and sums, and its writes in order
   abbrev pub ReplayTells : SlotName → State → Log → ℕ → Type 0
   ReplayTells name s log lent =
-      let x = sceneFor family code marks true log in
-      let slot = slotAtEntry entry (slotOf s name .addr .0) (slotOf s name .«data») in
-      let flags = flagsFromWords (flagsWord0 (s .flags)) (flagsWord1 (s .flags)) in
-      (replayOf x slot flags lent ≡ ReplayAnswer.Ended (toldOf (log .clocks) (progressOf (slotRunOf name (fullRun name log s)))))
-      × (fullSlotRun x slot flags .writes ≡ fullRun name log s .writes)
+      (replayOf script (registersIn name s) log lent ≡ ReplayAnswer.Ended (toldOf (log .clocks) (progressOf (slotRunOf name (fullRun name log s)))))
+      × (replayedRun script (registersIn name s) log .writes ≡ fullRun name log s .writes)
 
   -- of every start and every log
   abbrev pub ReplayTellsAll : Type 0
-  ReplayTellsAll = (name : SlotName) (s : State) → Start family code marks entry name s → (log : Log) → validLog log ≡ true
+  ReplayTellsAll = (name : SlotName) (s : State) → Start script name s → (log : Log) → validLog log ≡ true
       → (lent : ℕ) → maxEntries ≤ lent → ReplayTells name s log lent
 
-  -- what a pass means
-  pub record PassMeans (place count writes waitClocks : ℕ) : Type 0 where
-    -- "from every start, under every log, after any number of steps"
-    pub safe : (name : SlotName) (s : State) → Start family code marks entry name s → (log : Log) → validLog log ≡ true
-        → (n : ℕ) → Safe name place count writes waitClocks log n (runFor name log n (begun s))
-    -- what it writes is its own: under one log, equally many steps from any two starts have written the same
-    pub same-writes : (name name′ : SlotName) (s s′ : State) → Start family code marks entry name s → Start family code marks entry name′ s′
-        → (log : Log) → validLog log ≡ true
-        → (n : ℕ) → runFor name log n (begun s) .writes ≡ runFor name′ log n (begun s′) .writes
-    -- more log, never fewer writes (02, ticket 12): rows added at the end take back or change no write, they only add after it
-    pub rows-added : (name : SlotName) (s : State) → Start family code marks entry name s → RowsAdded name s
-    -- and readings filled in, known ones unchanged, make no wait end later, so that the writes made before are the beginning of those made now
-    pub readings-filled : (name : SlotName) (s : State) → Start family code marks entry name s → ReadingsFilled name s
-    -- each instruction takes a byte of the code RAM at least
-    pub bounded : count ≤ codeSize family
-    -- "some log brings it to exit"
-    pub reaches : (name : SlotName) (s : State) → Start family code marks entry name s
-        → (log : Log) × (n : ℕ) × (validLog log ≡ true) × (MasksInType log)
-        × (AtExit name place (runFor name log n (begun s)))
-    -- "replay answers what the steps give"
-    pub replays : ReplayTellsAll
-    -- a job may start it with HWSQ_ENABLE 0 or memory paused, which no start is: it ends at exit, with the log or at a poke all the same
-    pub ends : (enable : Bool) (log : Log) (addr word : ℕ) (flags : Flags) (name : SlotName) (s : State)
-        → Holds (sceneFor family code marks enable log) (slotAtEntry entry addr word) flags name s → validLog log ≡ true
-        → EndsWell (endingOf (slotOf (fullRun name log s .state) name .mode))
-
-  -- ---- what a fault means: a run that shows it
+  -- ---- a run that shows a fault
 
   -- a run of a start, n steps under a log
   pub record Witness : Type 0 where
     pub name : SlotName
     pub start : State
-    pub starts : Start family code marks entry name start
+    pub starts : Start script name start
     pub log : Log
     pub valid : validLog log ≡ true
     pub masks : MasksInType log
@@ -178,50 +151,83 @@ module _ (family : ℕ) (code marks : List ℕ) (entry : ℕ) (ranges : List ℕ
     pub writes′ : nextEffect two ≡ Effect.Wrote (record { 0 = address′ }) word′
     pub differ : (address ≡ address′) → (word ≡ word′) → ⊥
 
-  -- the state with another ADDR, or another DATA, in a slot, and else the same
-  abbrev pub withAddr : SlotName → State → ℕ → State
-  withAddr name s addr = let slot = slotOf s name in
-      withSlot s name (record { mode = slot .mode; ip = slot .ip; addr = record { 0 = addr }; «data» = slot .«data» }) (s .flags)
+  -- ---- what its verdict means, with the ranges that it may write to
 
-  abbrev pub withData : SlotName → State → ℕ → State
-  withData name s word = let slot = slotOf s name in
-      withSlot s name (record { mode = slot .mode; ip = slot .ip; addr = slot .addr; «data» = word }) (s .flags)
+  module _ (ranges : List ℕ) where
+    -- what holds of a run of a passed script after n steps
+    pub record Safe (name : SlotName) (place count writes waitClocks : ℕ) (log : Log) (n : ℕ) (r : Run) : Type 0 where
+      -- "wrote only listed addresses"
+      pub listed : AllListed ranges (r .writes)
+      -- "met no unknown opcode, never left the uploaded code", none of its steps refused: said of the next step, after any number of steps
+      pub orderly : Orderly (nextStep name log r .effect)
+      -- "ends at exit with memory running or in a wait with the log used up"
+      pub ended : codeSize (script .family) ≤ n → (AtExit name place r) ⊎ (InWait name log r)
+      -- "with exactly the reported place and counts"
+      pub exact : slotOf (r .state) name .mode ≡ Mode.Idle → Exact name place count writes waitClocks r
 
-  abbrev pub FaultMeans : Fault → ℕ → Type 0
-  -- 1: that step stops for a byte past the code RAM, at the opcode or in its operands
-  FaultMeans Fault.PastRam place = Shows place (λ e. (e ≡ Effect.Stopped Unreadable.Empty) ⊎ (e ≡ Effect.Stopped Unreadable.Short))
-  -- 2: it stops for a byte never uploaded
-  FaultMeans Fault.NotUploaded place = Shows place (λ e. e ≡ Effect.Stopped Unreadable.NotUploaded)
-  -- 3: it meets an unknown opcode
-  FaultMeans Fault.Unknown place = Shows place (λ e. e ≡ Effect.Unknown)
-  -- 4: two starts that differ only in ADDR write differently there
-  FaultMeans Fault.NoAddress place = (one : Witness) × (two : Witness) × (addr : ℕ) × (two .start ≡ withAddr (one .name) (one .start) addr) × (WriteDifferently place one two)
-  -- 5: two starts that differ only in DATA write differently there
-  FaultMeans Fault.HalfData place = (one : Witness) × (two : Witness) × (word : ℕ) × (two .start ≡ withData (one .name) (one .start) word) × (WriteDifferently place one two)
-  -- 6: it writes outside every range
-  FaultMeans Fault.Outside place = Shows place (λ e. (address : ℕ) × (word : ℕ) × (e ≡ Effect.Wrote (record { 0 = address }) word) × (listedIn ranges address ≡ false))
-  -- 7: some log brings a run there, its step waits, and no log lets a run from any start fetch again after that step
-  FaultMeans Fault.Unreleased place =
-      ((w : Witness) × (AtPlace (w .name) place (runOf w)) × (slotOf (runAfter w .state) (w .name) .mode ≡ Mode.Waiting))
-      × ((name : SlotName) (s : State) → Start family code marks entry name s → (log : Log) → validLog log ≡ true
-      → (n : ℕ) → AtPlace name place (runFor name log n (begun s))
-      → (m : ℕ) → Fetchless (nextStep name log (runFor name log (suc (n + m)) (begun s)) .effect))
-  -- 8: it exits there with memory paused
-  FaultMeans Fault.Paused place = (w : Witness) × (AtPlace (w .name) place (runOf w))
-      × (slotOf (runAfter w .state) (w .name) .mode ≡ Mode.Idle) × (slotOf (runAfter w .state) (w .name) .ip .0 ≡ place) × (pausedOf family (runAfter w .state .flags) ≡ true)
-  -- 9: its row applies, and its place is 0
-  FaultMeans Fault.Input place = (inputFits family code marks entry ranges ≡ false) × (place ≡ 0)
+    -- what a pass means
+    pub record PassMeans (place count writes waitClocks : ℕ) : Type 0 where
+      -- "from every start, under every log, after any number of steps"
+      pub safe : (name : SlotName) (s : State) → Start script name s → (log : Log) → validLog log ≡ true
+          → (n : ℕ) → Safe name place count writes waitClocks log n (runFor name log n (begun s))
+      -- what it writes is its own: under one log, equally many steps from any two starts have written the same
+      pub same-writes : (name name′ : SlotName) (s s′ : State) → Start script name s → Start script name′ s′ → (log : Log) → validLog log ≡ true
+          → (n : ℕ) → runFor name log n (begun s) .writes ≡ runFor name′ log n (begun s′) .writes
+      -- more log, never fewer writes (02, ticket 12): rows added at the end take back or change no write, they only add after it
+      pub rows-added : (name : SlotName) (s : State) → Start script name s → RowsAdded name s
+      -- and readings filled in, known ones unchanged, make no wait end later, so that the writes made before are the beginning of those made now
+      pub readings-filled : (name : SlotName) (s : State) → Start script name s → ReadingsFilled name s
+      -- each instruction takes a byte of the code RAM at least
+      pub bounded : count ≤ codeSize (script .family)
+      -- "some log brings it to exit"
+      pub reaches : (name : SlotName) (s : State) → Start script name s
+          → (log : Log) × (n : ℕ) × (validLog log ≡ true) × (MasksInType log) × (AtExit name place (runFor name log n (begun s)))
+      -- "replay answers what the steps give"
+      pub replays : ReplayTellsAll
+      -- a job may start it with HWSQ_ENABLE 0 or memory paused, which no start is: it ends at exit, with the log or at a poke all the same
+      pub ends : (enable : Bool) (log : Log) (addr word : ℕ) (flags : Flags) (name : SlotName) (s : State)
+          → Holds (scriptScene script enable log) (slotAtEntry (script .entry) addr word) flags name s → validLog log ≡ true
+          → EndsWell (endingOf (slotOf (fullRun name log s .state) name .mode))
 
-  abbrev pub VerdictMeans : Verdict → Type 0
-  VerdictMeans (Verdict.Pass place count writes waitClocks) = PassMeans (place .0) count writes waitClocks
-  VerdictMeans (Verdict.Fault fault place) = FaultMeans fault (place .0)
+    -- what a fault means: a run that shows it
+    abbrev pub FaultMeans : Fault → ℕ → Type 0
+    -- 1: that step stops for a byte past the code RAM, at the opcode or in its operands
+    FaultMeans Fault.PastRam place = Shows place (λ e. (e ≡ Effect.Stopped Unreadable.Empty) ⊎ (e ≡ Effect.Stopped Unreadable.Short))
+    -- 2: it stops for a byte never uploaded
+    FaultMeans Fault.NotUploaded place = Shows place (λ e. e ≡ Effect.Stopped Unreadable.NotUploaded)
+    -- 3: it meets an unknown opcode
+    FaultMeans Fault.Unknown place = Shows place (λ e. e ≡ Effect.Unknown)
+    -- 4: two starts that differ only in ADDR write differently there
+    FaultMeans Fault.NoAddress place =
+        (one : Witness) × (two : Witness) × (addr : ℕ) × (two .start ≡ withAddr (one .name) (one .start) addr) × (WriteDifferently place one two)
+    -- 5: two starts that differ only in DATA write differently there
+    FaultMeans Fault.HalfData place =
+        (one : Witness) × (two : Witness) × (word : ℕ) × (two .start ≡ withData (one .name) (one .start) word) × (WriteDifferently place one two)
+    -- 6: it writes outside every range
+    FaultMeans Fault.Outside place =
+        Shows place (λ e. (address : ℕ) × (word : ℕ) × (e ≡ Effect.Wrote (record { 0 = address }) word) × (listedIn ranges address ≡ false))
+    -- 7: some log brings a run there, its step waits, and no log lets a run from any start fetch again after that step
+    FaultMeans Fault.Unreleased place =
+        ((w : Witness) × (AtPlace (w .name) place (runOf w)) × (slotOf (runAfter w .state) (w .name) .mode ≡ Mode.Waiting))
+        × ((name : SlotName) (s : State) → Start script name s → (log : Log) → validLog log ≡ true
+        → (n : ℕ) → AtPlace name place (runFor name log n (begun s))
+        → (m : ℕ) → Fetchless (nextStep name log (runFor name log (suc (n + m)) (begun s)) .effect))
+    -- 8: it exits there with memory paused
+    FaultMeans Fault.Paused place = (w : Witness) × (AtPlace (w .name) place (runOf w)) × (slotOf (runAfter w .state) (w .name) .mode ≡ Mode.Idle)
+        × (slotOf (runAfter w .state) (w .name) .ip .0 ≡ place) × (pausedOf (script .family) (runAfter w .state .flags) ≡ true)
+    -- 9: its row applies, and its place is 0
+    FaultMeans Fault.Input place = (inputFits script ranges ≡ false) × (place ≡ 0)
 
-  -- the claim about the auditor's verdict
-  pub record Demand3 (verdict : Verdict) : Type 0 where
-    pub means : VerdictMeans verdict
-    -- 9 exactly where its row says: there, and by `means` nowhere else
-    pub input : inputFits family code marks entry ranges ≡ false → verdict ≡ Verdict.Fault Fault.Input (record { 0 = 0 })
-    -- "replay answers what the steps give": of a script with a fault too, if replay takes it
-    pub replays : scriptFits family code marks entry ≡ true → ReplayTellsAll
-    -- a script that may be audited has starts in each slot of its family, so that what is said of every start is said of some
-    pub starts : inputFits family code marks entry ranges ≡ true → (name : SlotName) → hasSlot family name ≡ true → (s : State) × (Start family code marks entry name s)
+    abbrev pub VerdictMeans : Verdict → Type 0
+    VerdictMeans (Verdict.Pass place count writes waitClocks) = PassMeans (place .0) count writes waitClocks
+    VerdictMeans (Verdict.Fault fault place) = FaultMeans fault (place .0)
+
+    -- the claim about the auditor's verdict
+    pub record Demand3 (verdict : Verdict) : Type 0 where
+      pub means : VerdictMeans verdict
+      -- 9 exactly where its row says: there, and by `means` nowhere else
+      pub input : inputFits script ranges ≡ false → verdict ≡ Verdict.Fault Fault.Input (record { 0 = 0 })
+      -- "replay answers what the steps give": of a script with a fault too, if replay takes it
+      pub replays : scriptFits script ≡ true → ReplayTellsAll
+      -- a script that may be audited has starts in each slot of its family, so that what is said of every start is said of some
+      pub starts : inputFits script ranges ≡ true → (name : SlotName) → hasSlot (script .family) name ≡ true → (s : State) × (Start script name s)

@@ -6,19 +6,22 @@ use mathlib.Core.List.{List, [], _∷_, _++_}
 use lib.ListN.{length, replicate}
 use Rattle.families.specs.Family.{codeSize}
 use Rattle.log.specs.Log.{logOf}
-use Rattle.flags.specs.Flags.{flagsFromWords}
 use Rattle.refusals.specs.Number.{faultNumber}
 use Rattle.refusals.specs.declared.refusals.Fault.{Fault}
-use Rattle.run.specs.SlotRun.{sceneFor, slotAtEntry}
+use Rattle.script.specs.Script.{Script, scriptOf}
+use Rattle.run.specs.Registers.{registersOf}
 use Rattle.run.specs.Replay.{maxEntries, replayOf}
 use Rattle.run.specs.declared.answers.Ending.{Ending}
 use Rattle.run.specs.declared.answers.ReplayAnswer.{ReplayAnswer}
 use Rattle.verdict.specs.Auditor.{auditOf}
 use Rattle.verdict.specs.declared.verdicts.Verdict.{Verdict}
 
--- the verdict on these bytes at place 0, 00 after them, all uploaded
+-- these bytes at place 0, 00 after them, all uploaded
+abbrev pub scriptOn : ℕ → List ℕ → ℕ → Script
+scriptOn family bytes entry = scriptOf family (bytes ++ replicate (codeSize family - length bytes) 0) (replicate (codeSize family) 1) entry
+
 abbrev pub verdictOn : ℕ → List ℕ → ℕ → List ℕ → Verdict
-verdictOn family bytes entry ranges = auditOf family (bytes ++ replicate (codeSize family - length bytes) 0) (replicate (codeSize family) 1) entry ranges
+verdictOn family bytes entry ranges = auditOf (scriptOn family bytes entry) ranges
 
 -- a pass with no writes: place, instructions and clocks
 abbrev pub passes : Verdict → ℕ → ℕ → ℕ → Type 0
@@ -39,8 +42,7 @@ lastByte byte = replicate 127 0 ++ (byte ∷ [])
 -- replay of `5f01007f` under one row with these masks
 abbrev pub replayOn : ℕ → ℕ → ReplayAnswer
 replayOn known values =
-    let x = sceneFor 2 (0x5f ∷ 0x01 ∷ 0x00 ∷ 0x7f ∷ replicate 124 0) (replicate 128 1) true (logOf (1 ∷ []) (known ∷ []) (values ∷ [])) in
-    replayOf x (slotAtEntry 0 0 0) (flagsFromWords 0 0) maxEntries
+    replayOf (scriptOn 2 (0x5f ∷ 0x01 ∷ 0x00 ∷ 0x7f ∷ []) 0) (registersOf 0 0 0 0 true) (logOf (1 ∷ []) (known ∷ []) (values ∷ [])) maxEntries
 
 abbrev pub ends : ReplayAnswer → Ending → Type 0
 ends (ReplayAnswer.Ended told) ending = told .ending ≡ ending

@@ -2,7 +2,6 @@
 use Prim.Native.Nat.{ℕ, _^_, _<_}
 use mathlib.Core.Path.{_≡_}
 use mathlib.Core.Bool.{true, false}
-use mathlib.Core.List.{List}
 use lib.ListN.{length, getD}
 use lib.Dec.{eqb}
 use Rattle.families.specs.Family.{codeSize}
@@ -13,6 +12,7 @@ use Rattle.state.specs.declared.slots.Slot.{Slot}
 use Rattle.state.specs.declared.slots.SlotName.{SlotName}
 use Rattle.state.specs.declared.state.State.{State}
 use Rattle.log.specs.Log.{Log}
+use Rattle.script.specs.Script.{Script}
 
 -- every number fits its type in the code
 pub record SlotInType (slot : Slot) : Type 0 where
@@ -38,19 +38,19 @@ pub record MasksInType (log : Log) : Type 0 where
   pub known-bits : (i : ℕ) → getD (log .known) i 0 < 2 ^ 32
   pub value-bits : (i : ℕ) → getD (log .values) i 0 < 2 ^ 32
 
--- a start in the named slot
-pub record Start (family : ℕ) (code marks : List ℕ) (entry : ℕ) (name : SlotName) (s : State) : Type 0 where
+-- a start of an audited script, in the named slot
+pub record Start (script : Script) (name : SlotName) (s : State) : Type 0 where
   pub in-type : InType s
   -- a state of the audited family, which has the slot
-  pub same-family : s .family ≡ family
-  pub slot-there : hasSlot family name ≡ true
+  pub same-family : s .family ≡ script .family
+  pub slot-there : hasSlot (script .family) name ≡ true
   -- the bytes marked 1 are uploaded as audited, and no others are; other bytes may hold anything
-  pub uploaded : (i : ℕ) → i < codeSize family → eqb (getD (s .marks) i 0) 1 ≡ eqb (getD marks i 0) 1
-  pub as-audited : (i : ℕ) → i < codeSize family → getD marks i 0 ≡ 1 → getD (s .code) i 0 ≡ getD code i 0
+  pub uploaded : (i : ℕ) → i < codeSize (script .family) → eqb (getD (s .marks) i 0) 1 ≡ eqb (getD (script .marks) i 0) 1
+  pub as-audited : (i : ℕ) → i < codeSize (script .family) → getD (script .marks) i 0 ≡ 1 → getD (s .code) i 0 ≡ getD (script .code) i 0
   -- the slot executes, not hung, blocked or in a wait, with IP at the entry; any other slot is idle
   pub executing : slotOf s name .mode ≡ Mode.Running
-  pub at-entry : slotOf s name .ip .0 ≡ entry
-  pub other-idle : hasSlot family (otherOf name) ≡ true → slotOf s (otherOf name) .mode ≡ Mode.Idle
+  pub at-entry : slotOf s name .ip .0 ≡ script .entry
+  pub other-idle : hasSlot (script .family) (otherOf name) ≡ true → slotOf s (otherOf name) .mode ≡ Mode.Idle
   -- HWSQ_ENABLE 1, memory not paused; all else is free
   pub enabled : s .enable ≡ true
-  pub not-paused : pausedOf family (s .flags) ≡ false
+  pub not-paused : pausedOf (script .family) (s .flags) ≡ false

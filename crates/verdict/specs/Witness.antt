@@ -17,7 +17,6 @@ use Rattle.log.specs.Validity.{validLog}
 use Rattle.log.specs.declared.row.Row.{Row}
 use Rattle.waits.specs.Left.{leftOf}
 use Rattle.ewaits.specs.Ewait.{hasReading}
-use Rattle.fetch.specs.Fetch.{fetchOf}
 use Rattle.flags.specs.Flags.{pausedOf}
 use Rattle.actions.specs.Action.{actionOf}
 use Rattle.actions.specs.declared.actions.Action.{Action}
@@ -26,6 +25,7 @@ use Rattle.state.specs.declared.slots.Mode.{Mode}
 use Rattle.state.specs.declared.slots.SlotName.{SlotName}
 use Rattle.state.specs.declared.state.State.{State}
 use Rattle.turn.specs.declared.turn.Effect.{Effect}
+use Rattle.script.specs.Script.{Script, fetchAt}
 use Rattle.script.specs.Input.{listedIn, inputFits}
 use Rattle.run.specs.Run.{Run}
 use Rattle.verdict.specs.Auditor.{pokeCount}
@@ -76,10 +76,10 @@ writesOver [] = 0
 writesOver (action ∷ actions) = pokeCount action + writesOver actions
 
 -- what a script does from here up to a place, of at most so many instructions
-unfoldable pub actionsTo : ℕ → ℕ → List ℕ → List ℕ → ℕ → ℕ → List Action
-actionsTo zero family code marks place at = []
-actionsTo (suc left) family code marks place at = cond (eqb at place) [] (elim (fetchOf family code marks at) [
-  | Decoded.Instruction i n ↦ actionOf i ∷ actionsTo left family code marks place (at + n)
+unfoldable pub actionsTo : ℕ → Script → ℕ → ℕ → List Action
+actionsTo zero script place at = []
+actionsTo (suc left) script place at = cond (eqb at place) [] (elim (fetchAt script at) [
+  | Decoded.Instruction i n ↦ actionOf i ∷ actionsTo left script place (at + n)
   | Decoded.Refused why ↦ []
 ])
 
@@ -101,39 +101,32 @@ secondData verdict = cond (eqb verdict 5) 65536 0
 
 -- ---- one audited script
 
-module _ (family : ℕ) (code marks : List ℕ) (entry : ℕ) (ranges : List ℕ) where
+module _ (script : Script) where
   -- what it does on its way to the verdict's place
   abbrev pub wayTo : Verdict → List Action
-  wayTo verdict = actionsTo (codeSize family) family code marks (placeOf verdict) entry
+  wayTo verdict = actionsTo (codeSize (script .family)) script (placeOf verdict) (script .entry)
 
   module _ (log : Log) (valid : validLog log ≡ true) (masks : MasksInType log) (steps : ℕ) where
     -- so many steps of a start under this log: the run, its next step's effect, and the run after that step
-    module _ {name : SlotName} {s : State} (start : Start family code marks entry name s) where
-      abbrev pub witnessFrom : Witness family code marks entry ranges
+    module _ {name : SlotName} {s : State} (start : Start script name s) where
+      abbrev pub witnessFrom : Witness script
       witnessFrom = record { name = name; start = s; starts = start; log = log; valid = valid; masks = masks; steps = steps }
 
       abbrev pub reached : Run
-      reached = runOf family code marks entry ranges witnessFrom
+      reached = runOf script witnessFrom
 
       abbrev pub effect : Effect
-      effect = nextEffect family code marks entry ranges witnessFrom
+      effect = nextEffect script witnessFrom
 
       abbrev pub after : Run
-      after = runAfter family code marks entry ranges witnessFrom
+      after = runAfter script witnessFrom
 
     -- these two are starts, and write differently at the place
     abbrev pub Differ : ℕ → SlotName → State → State → Type 0
-    Differ place name s s′ = (one : Start family code marks entry name s) × (two : Start family code marks entry name s′)
-        × (WriteDifferently family code marks entry ranges place (witnessFrom one) (witnessFrom two))
+    Differ place name s s′ = (one : Start script name s) × (two : Start script name s′) × (WriteDifferently script place (witnessFrom one) (witnessFrom two))
 
     -- what the next step of a start's run shows
-    module _ {name : SlotName} {s : State} (start : Start family code marks entry name s) (place : ℕ) where
-      abbrev withADDR : ℕ → State
-      withADDR addr = withAddr family code marks entry ranges name s addr
-
-      abbrev withDATA : ℕ → State
-      withDATA word = withData family code marks entry ranges name s word
-
+    module _ (ranges : List ℕ) {name : SlotName} {s : State} (start : Start script name s) (place : ℕ) where
       abbrev pub Sees : Fault → Type 0
       Sees Fault.PastRam = (effect start ≡ Effect.Stopped Unreadable.Empty) ⊎ (effect start ≡ Effect.Stopped Unreadable.Short)
       Sees Fault.NotUploaded = effect start ≡ Effect.Stopped Unreadable.NotUploaded
@@ -141,47 +134,50 @@ module _ (family : ℕ) (code marks : List ℕ) (entry : ℕ) (ranges : List ℕ
       -- 4: it writes at an address with the high half of the start's own ADDR, and with the two that are named there it writes differently
       Sees Fault.NoAddress =
           ((address : ℕ) × (word : ℕ) × (effect start ≡ Effect.Wrote (record { 0 = address }) word) × (address / 65536 ≡ slotOf s name .addr .0 / 65536))
-          × (Differ place name (withADDR 0) (withADDR (secondAddr (faultNumber Fault.NoAddress))))
+          × (Differ place name (withAddr name s 0) (withAddr name s (secondAddr (faultNumber Fault.NoAddress))))
       -- 5: it writes a word with the high half of the start's own DATA, and with the two that are named there it writes differently
       Sees Fault.HalfData =
           ((address : ℕ) × (word : ℕ) × (effect start ≡ Effect.Wrote (record { 0 = address }) word) × (word / 65536 ≡ slotOf s name .«data» / 65536))
-          × (Differ place name (withDATA 0) (withDATA (secondData (faultNumber Fault.HalfData))))
+          × (Differ place name (withData name s 0) (withData name s (secondData (faultNumber Fault.HalfData))))
       Sees Fault.Outside = (address : ℕ) × (word : ℕ) × (effect start ≡ Effect.Wrote (record { 0 = address }) word) × (listedIn ranges address ≡ false)
       -- 7: it waits with the log used up; that no log releases it is demand 3's
-      Sees Fault.Unreleased = InWait family code marks entry ranges name log (after start)
+      Sees Fault.Unreleased = InWait name log (after start)
       Sees Fault.Paused = (slotOf (after start .state) name .mode ≡ Mode.Idle) × (slotOf (after start .state) name .ip .0 ≡ place)
-          × (pausedOf family (after start .state .flags) ≡ true)
+          × (pausedOf (script .family) (after start .state .flags) ≡ true)
       -- 9 is no fault of a script
       Sees Fault.Input = ⊥
 
     -- the next step shows the verdict: of a pass it is exit's, with the reported numbers
-    abbrev pub ShowsVerdict : {name : SlotName} {s : State} → Start family code marks entry name s → Verdict → Type 0
-    ShowsVerdict {name} start (Verdict.Pass place count writes waitClocks) =
-        (suc steps ≡ count) × (Exact family code marks entry ranges name (place .0) count writes waitClocks (after start))
-    ShowsVerdict start (Verdict.Fault fault place) = Sees start (place .0) fault
+    abbrev pub ShowsVerdict : List ℕ → {name : SlotName} {s : State} → Start script name s → Verdict → Type 0
+    ShowsVerdict ranges {name} start (Verdict.Pass place count writes waitClocks) =
+        (suc steps ≡ count) × (Exact script name (place .0) count writes waitClocks (after start))
+    ShowsVerdict ranges start (Verdict.Fault fault place) = Sees ranges start (place .0) fault
 
     -- where the steps bring a start, with so many writes made
-    pub record ShownFrom (writes : ℕ) (verdict : Verdict) {name : SlotName} {s : State} (start : Start family code marks entry name s) : Type 0 where
-      pub there : AtPlace family code marks entry ranges name (placeOf verdict) (reached start)
+    pub record ShownFrom (ranges : List ℕ) (writes : ℕ) (verdict : Verdict) {name : SlotName} {s : State} (start : Start script name s) : Type 0 where
+      pub there : AtPlace name (placeOf verdict) (reached start)
       -- each of them fetched an instruction: none is idle, and none is a stop at the place
       pub counted : reached start .count ≡ steps
       pub wrote : length (reached start .writes) ≡ writes
       -- nothing of the log is idle: one clock is left, and ewaits passed by one of each earlier row
       pub one-left : leftOf (log .clocks) (reached start .place) ≡ 1
       pub passed-by : suc (reached start .ewaits) ≡ length (log .clocks)
-      pub shows : ShowsVerdict start verdict
+      pub shows : ShowsVerdict ranges start verdict
 
-  -- what a log and a number of steps show of a verdict, from every start, in whichever slot
-  pub record ShownBy (log : Log) (steps writes : ℕ) (verdict : Verdict) : Type 0 where
-    pub valid : validLog log ≡ true
-    pub masks : MasksInType log
-    pub few : length (log .clocks) ≤ maxShown
-    pub shown : {name : SlotName} {s : State} (start : Start family code marks entry name s) → ShownFrom log valid masks steps writes verdict start
+  -- ---- and the ranges that it may write to
 
-  -- the log that its own way asks for, as many steps as that has actions, and its writes
-  abbrev pub OwnLogShows : Verdict → Type 0
-  OwnLogShows verdict = let way = wayTo verdict in ShownBy (logIn (rowsOver way firstRow)) (length way) (writesOver way) verdict
+  module _ (ranges : List ℕ) where
+    -- what a log and a number of steps show of a verdict, from every start, in whichever slot
+    pub record ShownBy (log : Log) (steps writes : ℕ) (verdict : Verdict) : Type 0 where
+      pub valid : validLog log ≡ true
+      pub masks : MasksInType log
+      pub few : length (log .clocks) ≤ maxShown
+      pub shown : {name : SlotName} {s : State} (start : Start script name s) → ShownFrom log valid masks steps ranges writes verdict start
 
-  -- the claim: of a script that may be audited its own log shows the verdict, whichever it is
-  abbrev pub Witnessed : Verdict → Type 0
-  Witnessed verdict = inputFits family code marks entry ranges ≡ true → OwnLogShows verdict
+    -- the log that its own way asks for, as many steps as that has actions, and its writes
+    abbrev pub OwnLogShows : Verdict → Type 0
+    OwnLogShows verdict = let way = wayTo verdict in ShownBy (logIn (rowsOver way firstRow)) (length way) (writesOver way) verdict
+
+    -- the claim: of a script that may be audited its own log shows the verdict, whichever it is
+    abbrev pub Witnessed : Verdict → Type 0
+    Witnessed verdict = inputFits script ranges ≡ true → OwnLogShows verdict

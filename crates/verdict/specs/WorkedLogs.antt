@@ -1,18 +1,16 @@
 -- The logs of worked scripts (docs/LIBRARY.md): a first row, and one for each ewait that the row before it does not release, in order.
-use Prim.Native.Nat.{ℕ, zero, suc, _-_}
+use Prim.Native.Nat.{ℕ, zero, suc}
 use mathlib.Core.Path.{_≡_}
-use mathlib.Core.List.{List, [], _∷_, _++_}
-use lib.ListN.{length, replicate}
-use Rattle.families.specs.Family.{codeSize}
+use mathlib.Core.List.{List, [], _∷_}
+use lib.ListN.{length}
 use Rattle.log.specs.declared.row.Row.{Row}
 use Rattle.actions.specs.declared.actions.Action.{Action}
-use Rattle.verdict.specs.Starred.{verdictOn, everything}
+use Rattle.verdict.specs.Starred.{scriptOn, verdictOn, everything}
 use Rattle.verdict.specs.Witness.{firstRow, rowsOver, writesOver, wayTo, maxShown}
 
 -- what these bytes do before the verdict's place
 abbrev pub wayOn : ℕ → List ℕ → List Action
-wayOn family bytes =
-    wayTo family (bytes ++ replicate (codeSize family - length bytes) 0) (replicate (codeSize family) 1) 0 everything (verdictOn family bytes 0 everything)
+wayOn family bytes = wayTo (scriptOn family bytes 0) (verdictOn family bytes 0 everything)
 
 abbrev pub row : ℕ → ℕ → ℕ → Row
 row clocks known values = record { clocks = clocks; known = known; values = values }

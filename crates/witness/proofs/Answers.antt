@@ -13,6 +13,7 @@ use Rattle.refusals.specs.declared.refusals.Unshowable.{Unshowable}
 use Rattle.log.specs.Log.{Log}
 use Rattle.log.specs.declared.row.Row.{Row}
 use Rattle.log.proofs.Columns.{Room, rows-first}
+use Rattle.script.specs.Script.{Script}
 use Rattle.script.specs.Input.{inputFits}
 use Rattle.verdict.specs.Auditor.{verdictNumber, auditOf}
 use Rattle.verdict.specs.Demand3.{VerdictMeans}
@@ -46,11 +47,11 @@ pub few-values : (lent : Log) → length (lent .values) < maxShown → hasRoom l
 few-values lent h =
     rw (lt-leb maxShown (length (lent .values)) h, and-false (leb maxShown (length (lent .known)))) (and-false (leb maxShown (length (lent .clocks))))
 
-module _ (family : ℕ) (code marks : List ℕ) (entry : ℕ) (ranges : List ℕ) where
+module _ (x : Script) (ranges : List ℕ) where
   -- ---- the auditor's 9
 
   -- it is told where its row applies, and nowhere else
-  nine-means : (v : Verdict) → VerdictMeans family code marks entry ranges v → verdictNumber v ≡ 9 → inputFits family code marks entry ranges ≡ false
+  nine-means : (v : Verdict) → VerdictMeans x ranges v → verdictNumber v ≡ 9 → inputFits x ranges ≡ false
   nine-means (Verdict.Pass place count writes waitClocks) m e = absurd (omega (arith, e))
   nine-means (Verdict.Fault Fault.PastRam place) m e = absurd (omega (arith, e))
   nine-means (Verdict.Fault Fault.NotUploaded place) m e = absurd (omega (arith, e))
@@ -62,46 +63,46 @@ module _ (family : ℕ) (code marks : List ℕ) (entry : ℕ) (ranges : List ℕ
   nine-means (Verdict.Fault Fault.Paused place) m e = absurd (omega (arith, e))
   nine-means (Verdict.Fault Fault.Input place) m e = m .0
 
-  module _ {v : Verdict} (a : Audits family code marks entry ranges v) where
-    pub nine-input : eqb (verdictNumber v) 9 ≡ true → inputFits family code marks entry ranges ≡ false
+  module _ {v : Verdict} (a : Audits x ranges v) where
+    pub nine-input : eqb (verdictNumber v) 9 ≡ true → inputFits x ranges ≡ false
     nine-input t = nine-means v (a .demand3 .means) (eqb-true (verdictNumber v) 9 t)
 
-    pub else-fits : eqb (verdictNumber v) 9 ≡ false → inputFits family code marks entry ranges ≡ true
+    pub else-fits : eqb (verdictNumber v) 9 ≡ false → inputFits x ranges ≡ true
     else-fits t =
         ⊎-elim (λ fits. fits)
         (λ no. never (cc (ap (λ (w : Verdict). eqb (verdictNumber w) 9) (a .demand3 .input no))))
-        (either (inputFits family code marks entry ranges))
+        (either (inputFits x ranges))
 
   -- ---- the answers
 
   module _ (lent : Log) where
     abbrev Refuses : Unshowable → Type 0
-    Refuses why = Witnesses family code marks entry ranges lent lent (WitnessAnswer.Refused why)
+    Refuses why = Witnesses x ranges lent lent (WitnessAnswer.Refused why)
 
-    pub refuses-input : inputFits family code marks entry ranges ≡ false → Refuses Unshowable.Input
+    pub refuses-input : inputFits x ranges ≡ false → Refuses Unshowable.Input
     unfolding witnessOf witnessRefusal
     refuses-input i = record { answered = rw i refl; numbered = rw i refl; columns = refl; shows = tt; worked = worked-logs }
 
-    pub refuses-room : inputFits family code marks entry ranges ≡ true → hasRoom lent ≡ false → Refuses Unshowable.Room
+    pub refuses-room : inputFits x ranges ≡ true → hasRoom lent ≡ false → Refuses Unshowable.Room
     unfolding witnessOf witnessRefusal
     refuses-room i r = record { answered = rw (i, r) refl; numbered = rw (i, r) refl; columns = refl; shows = tt; worked = worked-logs }
 
-    module _ {v : Verdict} {new : Log} {made : Timeline} (i : inputFits family code marks entry ranges ≡ true) (long : Room maxShown lent)
-        (a : Audits family code marks entry ranges v) (f : Follows (way family code marks entry ranges) lent new made) where
-      shown : OwnLogShows family code marks entry ranges (auditOf family code marks entry ranges)
-      shown = subst (Witnessed family code marks entry ranges) (a .answered) (a .witnessed) i
+    module _ {v : Verdict} {new : Log} {made : Timeline} (i : inputFits x ranges ≡ true) (long : Room maxShown lent)
+        (a : Audits x ranges v) (f : Follows (way x ranges) lent new made) where
+      shown : OwnLogShows x ranges (auditOf x ranges)
+      shown = subst (Witnessed x ranges) (a .answered) (a .witnessed) i
 
       -- so its rows are few
       pub rows-fit : made .before + 1 ≤ maxShown
-      rows-fit = omega (arith, f .counted, length-map (rows family code marks entry ranges lent) (λ (row : Row). row .clocks), shown .few)
+      rows-fit = omega (arith, f .counted, length-map (rows x ranges lent) (λ (row : Row). row .clocks), shown .few)
 
-      pub answers : Witnesses family code marks entry ranges lent new
+      pub answers : Witnesses x ranges lent new
           (WitnessAnswer.Shown (record { verdict = v; rows = made .before + 1; steps = made .steps; writes = made .writes }))
       unfolding witnessOf witnessRefusal
       answers = let r = has-room lent long in record {
         answered = rw (a .answered, f .counted, f .stepped, f .wrote, i, r) refl;
         numbered = rw (i, r) refl;
         columns = f .put;
-        shows = (a, rw (a .answered, f .counted, f .stepped, f .wrote, f .put, rows-first lent (rows family code marks entry ranges lent)) shown);
+        shows = (a, rw (a .answered, f .counted, f .stepped, f .wrote, f .put, rows-first lent (rows x ranges lent)) shown);
         worked = worked-logs;
       }

@@ -23,8 +23,9 @@ use Rattle.actions.specs.declared.actions.Action.{Action}
 use Rattle.actions.specs.declared.actions.Part.{Part}
 use Rattle.actions.proofs.Variants.{none}
 use Rattle.actions.proofs.actions.Action.{the-type as action-type}
+use Rattle.script.specs.Script.{Script, fetchAt}
 use Rattle.script.specs.Input.{scriptFits, rangesFit, inputFits}
-use Rattle.script.proofs.Scripts.{Script, fits-script, fetchAt, Reads}
+use Rattle.script.proofs.Scripts.{fits-script, Reads}
 use Rattle.verdict.specs.Auditor.{Releasable, waitLength, knowNext, knowNothing, auditOf}
 use Rattle.verdict.specs.Witness.{firstRow, eventRow, releases, rowAfter, rowsEnded, rowsOver, writesOver, placeOf, maxShown}
 use Rattle.verdict.specs.declared.verdicts.Knowledge.{Knowledge}
@@ -73,21 +74,21 @@ module _ (made : Timeline) (old : Log) {answer : Timeline} where
 
 -- ---- the walk to the place, one instruction at a time
 
-module _ (x : Script) where
+module _ {x : Script} {ranges : List ℕ} where
   -- at the place nothing is left of it
-  over : {p q : ℕ} {k l : Knowledge} (w : Walk x p k q l) → p ≡ q → actionsOf x w ≡ []
+  over : {p q : ℕ} {k l : Knowledge} (w : Walk x ranges p k q l) → p ≡ q → actionsOf w ≡ []
   over here same = refl
-  over (more action n e f w) same = absurd (omega (arith, walk-forward x w, e .some))
+  over (more action n e f w) same = absurd (omega (arith, walk-forward w, e .some))
 
   -- before it there is an instruction, judged fine
-  record Next {p q : ℕ} {k l : Knowledge} (w : Walk x p k q l) (action : Action) (n : ℕ) : Type 0 where
+  record Next {p q : ℕ} {k l : Knowledge} (w : Walk x ranges p k q l) (action : Action) (n : ℕ) : Type 0 where
     reads : Reads x p action n
-    fine : Fine (x .family) (x .ranges) action k
-    rest : Walk x (p + n) (knowNext action k) q l
-    is : actionsOf x w ≡ action ∷ actionsOf x rest
+    fine : Fine (x .family) ranges action k
+    rest : Walk x ranges (p + n) (knowNext action k) q l
+    is : actionsOf w ≡ action ∷ actionsOf rest
 
-  next-of : {p q : ℕ} {k l : Knowledge} (w : Walk x p k q l) → (p ≡ q → ⊥) → (i : Instruction) (n : ℕ) → fetchAt x p ≡ Decoded.Instruction i n
-      → Next w (actionOf i) n
+  next-of : {p q : ℕ} {k l : Knowledge} (w : Walk x ranges p k q l) → (p ≡ q → ⊥) → (i : Instruction) (n : ℕ)
+      → fetchAt x p ≡ Decoded.Instruction i n → Next w (actionOf i) n
   next-of here apart i n f = absurd (apart refl)
   next-of (more action m e g w) apart i n f =
       let which : i ≡ e .instruction = cc (e .found) in
@@ -95,7 +96,7 @@ module _ (x : Script) where
       let acts : actionOf i ≡ action = ap actionOf which ∙ e .acts in
       rw (acts, size) (record { reads = e; fine = g; rest = w; is = refl })
 
-  pub never-refused : {p q : ℕ} {k l : Knowledge} (w : Walk x p k q l) → (p ≡ q → ⊥) → (why : Unreadable) → fetchAt x p ≡ Decoded.Refused why → ⊥
+  pub never-refused : {p q : ℕ} {k l : Knowledge} (w : Walk x ranges p k q l) → (p ≡ q → ⊥) → (why : Unreadable) → fetchAt x p ≡ Decoded.Refused why → ⊥
   never-refused here apart why f = apart refl
   never-refused (more action m e g w) apart why f = never (cc (e .found))
 
@@ -105,14 +106,14 @@ less-room : {m n : ℕ} {lent : Log} → Room n lent → m ≤ n → Room m lent
 less-room r h = record { clocks = omega (arith, r .clocks); known = omega (arith, r .known); values = omega (arith, r .values) }
 
 -- at a place: the rows that were put, and those that the rest of the walk asks for, are the log; and what is counted stays small
-pub record Making (x : Script) (place : ℕ) (way : List Action) (lent log : Log) (at : ℕ) (made : Timeline) : Type 0 where
+pub record Making (x : Script) (ranges : List ℕ) (place : ℕ) (way : List Action) (lent log : Log) (at : ℕ) (made : Timeline) : Type 0 where
   pub knows : Knowledge
   pub last : Knowledge
-  pub walk : Walk x at knows place last
+  pub walk : Walk x ranges at knows place last
   pub before : List Row
-  pub same-rows : before ++ rowsOver (actionsOf x walk) (made .row) ≡ rowsOver way firstRow
-  pub same-steps : made .steps + length (actionsOf x walk) ≡ length way
-  pub same-writes : made .writes + writesOver (actionsOf x walk) ≡ writesOver way
+  pub same-rows : before ++ rowsOver (actionsOf walk) (made .row) ≡ rowsOver way firstRow
+  pub same-steps : made .steps + length (actionsOf walk) ≡ length way
+  pub same-writes : made .writes + writesOver (actionsOf walk) ≡ writesOver way
   pub counted : made .before ≡ length before
   pub three-bytes : 3 * length before ≤ at
   pub low : at ≤ 512
@@ -122,8 +123,8 @@ pub record Making (x : Script) (place : ℕ) (way : List Action) (lent log : Log
   pub row-fits : RowFits (knows .clocks) (made .row)
   pub put : log ≡ rowsInto lent before
 
-pub making-first : {x : Script} {place entry : ℕ} {l : Knowledge} (w : Walk x entry knowNothing place l) (lent : Log) → entry ≤ 511
-    → Making x place (actionsOf x w) lent lent entry nothingMade
+pub making-first : {x : Script} {ranges : List ℕ} {place entry : ℕ} {l : Knowledge} (w : Walk x ranges entry knowNothing place l) (lent : Log)
+    → entry ≤ 511 → Making x ranges place (actionsOf w) lent lent entry nothingMade
 making-first {l = l} w lent h = record {
   knows = knowNothing;
   last = l;
@@ -143,18 +144,16 @@ making-first {l = l} w lent h = record {
 }
 
 -- the loop begins so, on its way to the verdict's place
-pub making-begins : (family : ℕ) (code marks : List ℕ) (entry : ℕ) (ranges : List ℕ) → ((i : ℕ) → getD code i 0 < 2 ^ 8)
-    → inputFits family code marks entry ranges ≡ true
-    → (lent : Log) {place : ℕ} {made : Timeline} → place ≡ placeOf (auditOf family code marks entry ranges) → made ≡ nothingMade
-    → Making (record { family = family; code = code; marks = marks; ranges = ranges }) place (way family code marks entry ranges) lent lent entry made
-making-begins family code marks entry ranges bytes fits lent there nothing =
-    let x : Script = record { family = family; code = code; marks = marks; ranges = ranges } in
-    let w = audit-walked family code marks entry ranges bytes fits .walk in
-    let low = fits-script family code marks entry (both-left (scriptFits family code marks entry) (rangesFit ranges) fits) .entry-low in
-    rw (there, nothing, way-is x (codeSize family) w (omega arith)) (making-first w lent low)
+pub making-begins : (x : Script) (ranges : List ℕ) → ((i : ℕ) → getD (x .code) i 0 < 2 ^ 8) → inputFits x ranges ≡ true
+    → (lent : Log) {place : ℕ} {made : Timeline} → place ≡ placeOf (auditOf x ranges) → made ≡ nothingMade
+    → Making x ranges place (way x ranges) lent lent (x .entry) made
+making-begins x ranges bytes fits lent there nothing =
+    let w = audit-walked x ranges bytes fits .walk in
+    let low = fits-script x (both-left (scriptFits x) (rangesFit ranges) fits) .entry-low in
+    rw (there, nothing, way-is (codeSize (x .family)) w (omega arith)) (making-first w lent low)
 
-module _ {x : Script} {place : ℕ} {all : List Action} {lent log : Log} {at : ℕ} {made : Timeline}
-    (g : Making x place all lent log at made) (room : Room maxShown lent) where
+module _ {x : Script} {ranges : List ℕ} {place : ℕ} {all : List Action} {lent log : Log} {at : ℕ} {made : Timeline}
+    (g : Making x ranges place all lent log at made) (room : Room maxShown lent) where
   few : length (g .before) ≤ 170
   few = omega (arith, g .three-bytes, g .low)
 
@@ -174,7 +173,7 @@ module _ {x : Script} {place : ℕ} {all : List Action} {lent log : Log} {at : �
   -- at the place the present row is the last
   last-put : at ≡ place → {new : Log} → new ≡ withRow log (made .before) (made .row) → Follows all lent new made
   last-put same {new} p =
-      let none-left = over x (g .walk) same in
+      let none-left = over (g .walk) same in
       let rows-are : g .before ++ (made .row ∷ []) ≡ rowsOver all firstRow
       = ap (λ (actions : List Action). g .before ++ rowsOver actions (made .row)) (sym none-left) ∙ g .same-rows in
       record {
@@ -202,8 +201,8 @@ module _ {x : Script} {place : ℕ} {all : List Action} {lent log : Log} {at : �
     abbrev action : Action
     action = actionOf i
 
-    step : Next x (g .walk) action n
-    step = next-of x (g .walk) apart i n f
+    step : Next (g .walk) action n
+    step = next-of (g .walk) apart i n f
 
     pub inside : (0 < n) × (at + n ≤ 512)
     inside = let e = step .reads in (e .some, omega (arith, e .inside, size-small (x .family)))
@@ -219,12 +218,13 @@ module _ {x : Script} {place : ℕ} {all : List Action} {lent log : Log} {at : �
           step .fine .event,
         )
 
-    making-on : {new : Log} → new ≡ withRowsAt log (made .before) (rowsEnded action (made .row)) → Making x place all lent new (at + n) (madeAfter action made)
+    making-on : {new : Log} → new ≡ withRowsAt log (made .before) (rowsEnded action (made .row))
+        → Making x ranges place all lent new (at + n) (madeAfter action made)
     making-on p =
         let left = rowsEnded action (made .row) in
-        let later = rowsOver (actionsOf x (step .rest)) (rowAfter action (made .row)) in
-        let size = reads-size x (step .reads) (made .row) in
-        let here : rowsOver (actionsOf x (g .walk)) (made .row) ≡ left ++ later = ap (λ (actions : List Action). rowsOver actions (made .row)) (step .is) in
+        let later = rowsOver (actionsOf (step .rest)) (rowAfter action (made .row)) in
+        let size = reads-size (step .reads) (made .row) in
+        let here : rowsOver (actionsOf (g .walk)) (made .row) ≡ left ++ later = ap (λ (actions : List Action). rowsOver actions (made .row)) (step .is) in
         let sum = length-append (g .before) left in
         record {
           knows = knowNext action (g .knows);
@@ -245,8 +245,9 @@ module _ {x : Script} {place : ℕ} {all : List Action} {lent log : Log} {at : �
         }
 
     -- the same of what the loop's calls gave
-    pub making-next : {new : Log} {did : Action} {made′ : Timeline} → did ≡ action → Extends did made log new made′ → Making x place all lent new (at + n) made′
+    pub making-next : {new : Log} {did : Action} {made′ : Timeline} → did ≡ action → Extends did made log new made′
+        → Making x ranges place all lent new (at + n) made′
     making-next {new} {did} {made′} same e =
         let becomes : made′ ≡ madeAfter action made = e .made-is ∙ ap (λ (a : Action). madeAfter a made) same in
-        subst (Making x place all lent new (at + n)) (sym becomes)
+        subst (Making x ranges place all lent new (at + n)) (sym becomes)
         (making-on (e .put ∙ ap (λ (a : Action). withRowsAt log (made .before) (rowsEnded a (made .row))) same))

@@ -11,6 +11,7 @@ use Rattle.log.specs.Log.{Log}
 use Rattle.log.specs.Rows.{rowsInto, firstRows}
 use Rattle.log.specs.declared.row.Row.{Row}
 use Rattle.actions.specs.declared.actions.Action.{Action}
+use Rattle.script.specs.Script.{Script}
 use Rattle.script.specs.Input.{inputFits}
 use Rattle.verdict.specs.Auditor.{auditOf}
 use Rattle.verdict.specs.Witness.{firstRow, rowsOver, writesOver, maxShown, wayTo, ShownBy}
@@ -29,25 +30,25 @@ witnessNumber (WitnessAnswer.Shown told) = 0
 witnessNumber (WitnessAnswer.Refused why) = unshowableNumber why
 
 -- what a script does before its verdict's place
-abbrev pub way : ℕ → List ℕ → List ℕ → ℕ → List ℕ → List Action
-way family code marks entry ranges = wayTo family code marks entry ranges (auditOf family code marks entry ranges)
+abbrev pub way : Script → List ℕ → List Action
+way script ranges = wayTo script (auditOf script ranges)
 
 -- a script with ranges, and the columns that are lent
-module _ (family : ℕ) (code marks : List ℕ) (entry : ℕ) (ranges : List ℕ) (lent : Log) where
+module _ (script : Script) (ranges : List ℕ) (lent : Log) where
   -- the rows that its way asks for
   abbrev pub rows : List Row
-  rows = rowsOver (way family code marks entry ranges) firstRow
+  rows = rowsOver (way script ranges) firstRow
 
   -- no script with ranges, fewer than 171 entries lent in a column: tested in this order; then the verdict and the numbers of its log
   unfoldable pub witnessOf : WitnessAnswer
   witnessOf =
-      cond (inputFits family code marks entry ranges)
+      cond (inputFits script ranges)
       (cond (hasRoom lent)
       (WitnessAnswer.Shown (record {
-        verdict = auditOf family code marks entry ranges;
+        verdict = auditOf script ranges;
         rows = length rows;
-        steps = length (way family code marks entry ranges);
-        writes = writesOver (way family code marks entry ranges);
+        steps = length (way script ranges);
+        writes = writesOver (way script ranges);
       }))
       (WitnessAnswer.Refused Unshowable.Room))
       (WitnessAnswer.Refused Unshowable.Input)
@@ -55,7 +56,7 @@ module _ (family : ℕ) (code marks : List ℕ) (entry : ℕ) (ranges : List ℕ
   -- which number an answer must have: 9 as the auditor's row says, 14 fewer than 171 entries, tested in this order
   unfoldable pub witnessRefusal : ℕ
   witnessRefusal =
-      cond (not (inputFits family code marks entry ranges)) 9
+      cond (not (inputFits script ranges)) 9
       (cond (not (hasRoom lent)) 14
       0)
 
@@ -66,8 +67,8 @@ module _ (family : ℕ) (code marks : List ℕ) (entry : ℕ) (ranges : List ℕ
 
   -- of the verdict all holds that the auditor promises, and the first entries of the columns show it, from every start
   abbrev pub ShowsIt : Log → WitnessAnswer → Type 0
-  ShowsIt new (WitnessAnswer.Shown told) = (Audits family code marks entry ranges (told .verdict))
-      × (ShownBy family code marks entry ranges (firstRows (told .rows) new) (told .steps) (told .writes) (told .verdict))
+  ShowsIt new (WitnessAnswer.Shown told) = (Audits script ranges (told .verdict))
+      × (ShownBy script ranges (firstRows (told .rows) new) (told .steps) (told .writes) (told .verdict))
   ShowsIt new (WitnessAnswer.Refused why) = Unit {0}
 
   -- what it promises of its answer and of the columns, lent and new

@@ -5,6 +5,7 @@ ghost use Prim.Native.Nat.{_≤_};
 ghost use lib.Dec.{eqb};
 ghost use lib.ListN.{length};
 ghost use Rattle.log.specs.Log.{logOf};
+ghost use Rattle.script.specs.Script.{scriptOf};
 ghost use Rattle.script.specs.Input.{inputFits};
 ghost use Rattle.verdict.specs.Auditor.{verdictNumber, auditOf};
 ghost use Rattle.verdict.specs.Witness.{maxShown, placeOf};
@@ -47,7 +48,7 @@ pub fn witness<'a>(
     known: &mut [u32],
     values: &mut [u32],
 ) -> WitnessAnswer
-    ensures { λ r. ⌜ Witnesses family (now (code .entry)) (now (marks .entry)) (entry .0) (now (ranges .entry))
+    ensures { λ r. ⌜ Witnesses (scriptOf family (now (code .entry)) (now (marks .entry)) (entry .0)) (now (ranges .entry))
         (logOf (now (clocks .entry)) (now (known .entry)) (now (values .entry))) (logOf (now (clocks .exit)) (now (known .exit)) (now (values .exit))) r ⌝ }
 {
     let verdict = audit::audit(family, code, marks, entry, ranges);
@@ -112,10 +113,10 @@ fn follow<'a>(
     known: &mut [u32],
     values: &mut [u32],
 ) -> Timeline
-    requires { ⌜ (inputFits family (now code) (now marks) (entry .0) (now ranges) ≡ true)
-        × (place .0 ≡ placeOf (auditOf family (now code) (now marks) (entry .0) (now ranges)))
+    requires { ⌜ (inputFits (scriptOf family (now code) (now marks) (entry .0)) (now ranges) ≡ true)
+        × (place .0 ≡ placeOf (auditOf (scriptOf family (now code) (now marks) (entry .0)) (now ranges)))
         × (maxShown ≤ length (now clocks)) × (maxShown ≤ length (now known)) × (maxShown ≤ length (now values)) ⌝ }
-    ensures { λ r. ⌜ Follows (way family (now (code .entry)) (now (marks .entry)) (entry .0) (now (ranges .entry)))
+    ensures { λ r. ⌜ Follows (way (scriptOf family (now (code .entry)) (now (marks .entry)) (entry .0)) (now (ranges .entry)))
         (logOf (now (clocks .entry)) (now (known .entry)) (now (values .entry))) (logOf (now (clocks .exit)) (now (known .exit)) (now (values .exit))) r ⌝ }
 {
     let mut at = entry.0;

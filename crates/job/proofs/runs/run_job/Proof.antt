@@ -27,7 +27,7 @@ run-code-requires : tie.Need-run-code-requires
 run-code-requires c κs =
     let s = entered (first c) in
     let j = s .args .t1 in
-    let fit = fits-script _ _ _ _ (script-fits j (s .pre .started)) in
+    let fit = fits-script _ (script-fits j (s .pre .started)) in
     let size = codeSize (j .state .family) in (
       (omega (arith, fit .code-size, length-take size (j .state .code)), omega (arith, fit .marks-size, length-take size (j .state .marks))),
       s .pre .sound .within,

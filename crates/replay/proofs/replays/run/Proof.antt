@@ -35,7 +35,7 @@ run-turns-requires c κs =
     let room = l .before .before in
     let e = room .before in
     let fits = sym (e .before .script-fits .ensures) ∙ not-false _ (e .if1 .left) in
-    (omega (arith, fits-script _ _ _ _ fits .entry-low), sym (l .before .valid-log .ensures) ∙ not-false _ (l .if3 .left), room .if2 .left)
+    (omega (arith, fits-script _ fits .entry-low), sym (l .before .valid-log .ensures) ∙ not-false _ (l .if3 .left), room .if2 .left)
 
 returns-4 : tie.Need-returns-4
 unfolding runAnswerOf

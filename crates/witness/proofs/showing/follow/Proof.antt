@@ -2,28 +2,24 @@
 use denote.Ref.{now}
 use Prim.Native.Nat.{ℕ, _+_, _-_, _≤_, _<_}
 use mathlib.Core.Path.{_≡_, sym, _∙_}
-use mathlib.Core.List.{List}
 use mathlib.Core.Logic.{⊎-elim}
 use native.Mathlib.Omega.{arith}
 use borrow.Author.Needs.{needs}
 use Rattle.isa.specs.declared.instructions.Instruction.{Instruction}
 use Rattle.isa.specs.declared.reader.Decoded.{Decoded}
-use Rattle.fetch.specs.Fetch.{fetchOf}
 use Rattle.log.specs.Log.{Log, logOf}
 use Rattle.log.proofs.Columns.{Room}
-use Rattle.script.proofs.Scripts.{Script}
+use Rattle.script.specs.Script.{Script, scriptOf, fetchAt}
 use Rattle.verdict.specs.Witness.{maxShown}
 use Rattle.witness.specs.Witnesses.{way}
 use Rattle.witness.proofs.Making.{never-refused, Making, making-begins, making-over, making-next, place-left, counts-fit, inside, lengths-over}
 use Rattle.witness.proofs.showing.follow.Statement.{statement}
 use Rattle.witness.proofs.showing.follow.Tie as tie
 
-abbrev script : ℕ → List ℕ → List ℕ → List ℕ → Script
-script family code marks ranges = record { family = family; code = code; marks = marks; ranges = ranges }
-
 abbrev Inv-loop : tie.InvT-loop
 Inv-loop family code marks ranges place clocks₀ known₀ values₀ at₀ made₀ clocks known values at made =
-    Making (script family code marks ranges) (place .0) (way family code marks at₀ ranges) (logOf clocks₀ known₀ values₀) (logOf clocks known values) at made
+    let x = scriptOf family code marks at₀ in
+    Making x ranges (place .0) (way x ranges) (logOf clocks₀ known₀ values₀) (logOf clocks known values) at made
 
 abbrev μ-loop : tie.MeasureT-loop
 μ-loop family code marks ranges place clocks₀ known₀ values₀ at₀ made₀ clocks known values at made = 512 - at
@@ -36,6 +32,9 @@ module _ (c : tie.After-begin Inv-loop μ-loop) where
   abbrev start : tie.Start Inv-loop μ-loop
   start = bytes-known .before
 
+  abbrev script : Script
+  script = let a = start .args in scriptOf (a .family) (now (a .code)) (now (a .marks)) (a .entry .0)
+
   abbrev lent : Log
   lent = let a = start .args in logOf (now (a .clocks)) (now (a .known)) (now (a .values))
 
@@ -45,9 +44,8 @@ module _ (c : tie.After-begin Inv-loop μ-loop) where
 loop-holds : tie.Need-loop-holds Inv-loop μ-loop
 loop-holds c =
     let s = start c in
-    let a = s .args in
-    making-begins (a .family) (now (a .code)) (now (a .marks)) (a .entry .0) (now (a .ranges))
-    (λ i. bytes-known c .shared-slice-known .given i .fits) (s .pre .0) (lent c) (s .pre .1) (c .begin .ensures)
+    making-begins (script c) (now (s .args .ranges)) (λ i. bytes-known c .shared-slice-known .given i .fits)
+    (s .pre .0) (lent c) (s .pre .1) (c .begin .ensures)
 
 -- what was found, and where it lies
 module _ (c : tie.After-found Inv-loop μ-loop) where
@@ -63,7 +61,7 @@ module _ (c : tie.After-found Inv-loop μ-loop) where
   abbrev size : ℕ
   size = c .found .given .0 .1 .0
 
-  fetched : fetchOf (given .args .family) (now (given .args .code)) (now (given .args .marks)) (loop .loop .at) ≡ Decoded.Instruction instruction size
+  fetched : fetchAt (script (loop .before)) (loop .loop .at) ≡ Decoded.Instruction instruction size
   fetched = sym (c .before .before .fetch .ensures .answered) ∙ c .found .given .1
 
   apart : loop .loop .at ≡ given .args .place .0 → ⊥
@@ -112,7 +110,7 @@ module _ (c : tie.Joined1 Inv-loop μ-loop) where
   arrives : (c .if1 .last ≡ left .loop .made) × (left .loop .at ≡ start (left .before) .args .place .0)
   arrives =
       ⊎-elim (λ w. (w .1, w .0 .taken))
-      (λ w. absurd (never-refused _ (left .loop .inv .walk) (w .0 .left) _ (sym (w .1 .ensures .answered) ∙ w .3 .given .1)))
+      (λ w. absurd (never-refused (left .loop .inv .walk) (w .0 .left) _ (sym (w .1 .ensures .answered) ∙ w .3 .given .1)))
       (c .if1 .came)
 
 put-row-requires : tie.Need-put-row-requires Inv-loop μ-loop

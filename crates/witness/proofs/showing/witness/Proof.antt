@@ -8,6 +8,7 @@ use borrow.Author.Needs.{needs}
 use borrow.Author.Tests.{ltb-true, ltb-false}
 use Rattle.log.specs.Log.{Log, logOf}
 use Rattle.log.proofs.Columns.{Room}
+use Rattle.script.specs.Script.{scriptOf}
 use Rattle.script.specs.Input.{inputFits}
 use Rattle.verdict.specs.Witness.{placeOf, maxShown}
 use Rattle.witness.proofs.Answers.{few-clocks, few-known, few-values, nine-input, else-fits, refuses-input, refuses-room, rows-fit, answers}
@@ -25,7 +26,7 @@ module _ (c : tie.After-audit) where
 returns : tie.Need-returns
 returns c =
     let audited = c .before .before in
-    refuses-input _ _ _ _ _ (lent audited) (nine-input _ _ _ _ _ (audited .audit .ensures) (sym (c .before .is-input .ensures) ∙ c .if1 .taken))
+    refuses-input _ _ (lent audited) (nine-input _ _ (audited .audit .ensures) (sym (c .before .is-input .ensures) ∙ c .if1 .taken))
 
 -- the auditor took it
 module _ (c : tie.Else1) where
@@ -35,13 +36,13 @@ module _ (c : tie.Else1) where
   abbrev given : tie.Start
   given = start audited
 
-  fits : inputFits (given .args .family) (now (given .args .code)) (now (given .args .marks)) (given .args .entry .0) (now (given .args .ranges)) ≡ true
-  fits = else-fits _ _ _ _ _ (audited .audit .ensures) (sym (c .before .is-input .ensures) ∙ c .if1 .left)
+  fits : (let a = given .args in inputFits (scriptOf (a .family) (now (a .code)) (now (a .marks)) (a .entry .0)) (now (a .ranges))) ≡ true
+  fits = else-fits _ _ (audited .audit .ensures) (sym (c .before .is-input .ensures) ∙ c .if1 .left)
 
 returns-2 : tie.Need-returns-2
 returns-2 c =
     let columns = lent (audited (c .before)) in
-    refuses-room _ _ _ _ _ columns (fits (c .before))
+    refuses-room _ _ columns (fits (c .before))
     (⊎-elim (λ w. few-clocks columns (w .taken))
     (⊎-elim (λ w. few-known columns (ltb-true _ _ (w .1 .taken))) (λ w. few-values columns (ltb-true _ _ (w .2 .taken))))
     (c .if2 .came))
@@ -76,12 +77,12 @@ module _ (c : tie.After-struct-known) where
 add-t16 : tie.Need-add-t16
 add-t16 c =
     let t = took (placed c) in
-    omega (arith, rows-fit _ _ _ _ _ _ (fits t) (long (placed c)) (audited t .audit .ensures) (followed c .follow .ensures))
+    omega (arith, rows-fit _ _ _ (fits t) (long (placed c)) (audited t .audit .ensures) (followed c .follow .ensures))
 
 returns-3 : tie.Need-returns-3
 returns-3 c =
     let t = took (placed c) in
-    answers _ _ _ _ _ _ (fits t) (long (placed c)) (audited t .audit .ensures) (followed c .follow .ensures)
+    answers _ _ _ (fits t) (long (placed c)) (audited t .audit .ensures) (followed c .follow .ensures)
 
 pub witness-spec : {M : Type 1} → statement M
 witness-spec =
