@@ -12,7 +12,7 @@ use state::is_idle;
 use state::slot_of;
 
 // A slot executes unless it is idle; one that the family lacks never does.
-fn is_executing(family: u8, name: SlotName, mode: Mode) -> bool
+pub fn is_executing(family: u8, name: SlotName, mode: Mode) -> bool
     ensures { λ r. ⌜ r ≡ (hasSlot family name && not (isIdle mode)) ⌝ }
 {
     has_slot(family, name) && !is_idle(mode)

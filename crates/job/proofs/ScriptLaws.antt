@@ -1,14 +1,19 @@
 -- Parts of a job's arrays, and the run of its script. Assumes nothing.
 use Prim.Native.Nat.{ℕ, _*_, _≤_}
 use mathlib.Core.Path.{_≡_, ap, sym, _∙_}
+use mathlib.Core.Bool.{true, false, not, _&&_}
 use mathlib.Core.List.{List}
 use native.Mathlib.Omega.{arith}
 use lib.ListN.{length, take, length-take}
 use lib.Seq.{length-take-le}
 use borrow.Author.Tests.{le-leb}
 use Rattle.families.specs.Family.{codeSize}
-use Rattle.fetch.proofs.Places.{size-small}
 use Rattle.refusals.specs.declared.refusals.Unreplayable.{Unreplayable}
+use Rattle.state.specs.Slot.{hasSlot, isIdle}
+use Rattle.state.specs.declared.slots.Slot.{Slot}
+use Rattle.state.specs.declared.slots.SlotName.{SlotName}
+use Rattle.state.specs.declared.state.State.{State}
+use Rattle.script.proofs.Scripts.{fits-script}
 use Rattle.run.specs.Replay.{entriesOf, writtenInto, progressOf, runAnswerOf, lentAfter}
 use Rattle.run.specs.declared.answers.Progress.{Progress}
 use Rattle.run.specs.declared.answers.RunAnswer.{RunAnswer}
@@ -19,16 +24,31 @@ use Rattle.report.proofs.ScriptLaws.{script-fits, writes-few}
 use Rattle.report.specs.Script.{jobScene, jobRun}
 use Rattle.job.specs.Inside.{RunsJob, ReadyToRun, RanJob}
 
--- a family's code RAM lies in the 512 bytes of a state
-pub ram-lies : (family : ℕ) (bytes : List ℕ) (n : ℕ) → length bytes ≡ 512 → n ≡ codeSize family → n ≤ length bytes
-ram-lies family bytes n h e = omega (arith, size-small family)
-
 pub part-length : (n : ℕ) (l : List ℕ) → n ≤ length l → n ≡ length (take n l)
 part-length n l h = sym (length-take-le n l h)
 
--- and a part of them is it
-pub ram-part : (family : ℕ) (bytes : List ℕ) (n : ℕ) → length bytes ≡ 512 → n ≡ codeSize family → n ≡ length (take n bytes)
-ram-part family bytes n h e = part-length n bytes (ram-lies family bytes n h e)
+-- ---- the slot that executes, from what tells it
+
+module _ (s : State) {family : ℕ} {a b : Slot} (f : s .family ≡ family) (x : s .a ≡ a) (y : s .b ≡ b) where
+  pub executing-a : (hasSlot family SlotName.A && not (isIdle (a .mode))) ≡ true → a ≡ executing s
+  executing-a e = rw (f, x, e)
+
+  pub executing-b : (hasSlot family SlotName.A && not (isIdle (a .mode))) ≡ false → b ≡ executing s
+  executing-b e = rw (f, x, e, y)
+
+-- ---- the arrays of a job that was read without fault
+
+module _ (j : Job) (ready : ReadyToRun j) where
+  -- the family's code RAM lies in them
+  pub ram-room : (codeSize (j .state .family) ≤ length (j .state .code)) × (codeSize (j .state .family) ≤ length (j .state .marks))
+  ram-room =
+      let fit = fits-script _ (script-fits j (ready .started)) in
+      let size = codeSize (j .state .family) in
+      (omega (arith, fit .code-size, length-take size (j .state .code)), omega (arith, fit .marks-size, length-take size (j .state .marks)))
+
+  -- and so do the ranges
+  pub bounds-room : length (j .bounds) ≡ 128 → 2 * j .counts .ranges ≤ length (j .bounds)
+  bounds-room e = omega (arith, ready .sound .fit .ranges)
 
 -- ---- the run of a job that was read without fault
 

@@ -10,10 +10,10 @@ ghost use Rattle.run.specs.SlotRun.{sceneFor};
 ghost use Rattle.log.specs.Log.{logOf};
 ghost use Rattle.script.specs.Script.{scriptOf};
 ghost use Rattle.script.specs.Input.{maxRanges};
-ghost use Rattle.records.specs.Job.{CountsFit};
+ghost use Rattle.state.specs.declared.state.State.{State};
+ghost use Rattle.records.specs.Started.{executing as Started·executing};
 ghost use Rattle.report.specs.Script.{verdictOf, wordOf, statusOf};
 ghost use Rattle.job.specs.Inside.{RunsJob, ReadyToRun};
-use execution::executing_slot;
 use flags::Flags;
 use isa::CodeAddress;
 use isa::MmioAddress;
@@ -21,23 +21,36 @@ use records::Job;
 use registers::Reading;
 use run::RunAnswer;
 use state::Slot;
+use state::SlotName;
 use state::State;
 use verdict::Verdict;
 
 // The address of STATUS.
 const STATUS: u32 = 0x001308;
 
+// The slot that executes, of a state's two.
+fn executing(family: u8, a: Slot, b: Slot) -> Slot
+    ensures { λ r. ⌜ ((s : State) → s .family ≡ family → s .a ≡ a → s .b ≡ b → r ≡ Started·executing s) ⌝ }
+{
+    let mode = a.mode;
+    if execution::is_executing(family, SlotName::A, mode) {
+        a
+    } else {
+        b
+    }
+}
+
 // The verdict on the script in a family's part of these bytes.
-fn audit_code(
+fn audit_code<'a>(
     family: u8,
-    code: [u8; 512],
-    marks: [u8; 512],
+    code: &'a [u8],
+    marks: &'a [u8],
     entry: CodeAddress,
-    bounds: [u32; 128],
+    bounds: &'a [u32],
     ranges: usize,
 ) -> Verdict
-    requires { ⌜ ranges ≤ maxRanges ⌝ }
-    ensures { λ r. ⌜ r ≡ auditOf (scriptOf family (codeRam family code) (codeRam family marks) (entry .0)) (take (2 * ranges) bounds) ⌝ }
+    requires { ⌜ (codeSize family ≤ length (now code)) × (codeSize family ≤ length (now marks)) × (2 * ranges ≤ length (now bounds)) × (ranges ≤ maxRanges) ⌝ }
+    ensures { λ r. ⌜ r ≡ auditOf (scriptOf family (codeRam family (now (code .entry))) (codeRam family (now (marks .entry))) (entry .0)) (take (2 * ranges) (now (bounds .entry))) ⌝ }
 {
     let size = families::code_size(family);
     let count = 2 * ranges;
@@ -50,22 +63,20 @@ fn audit_code(
     )
 }
 
-// The verdict on the job's script.
+// The verdict on the job's script. Its arrays are lent, as for its run.
 pub(crate) fn verdict_of(job: Job) -> Verdict
-    requires { ⌜ CountsFit (job .counts) ⌝ }
+    requires { ⌜ ReadyToRun job ⌝ }
     ensures { λ r. ⌜ r ≡ verdictOf job ⌝ }
 {
-    let state = job.state;
-    let slot = state::slot_of(state, executing_slot(state));
-    let code = state.code;
-    let marks = state.marks;
-    let bounds = job.bounds;
+    let a = job.state.a;
+    let b = job.state.b;
+    let slot = executing(job.state.family, a, b);
     audit_code(
-        state.family,
-        code,
-        marks,
+        job.state.family,
+        &job.state.code,
+        &job.state.marks,
         slot.ip,
-        bounds,
+        &job.bounds,
         job.counts.ranges,
     )
 }
@@ -111,16 +122,17 @@ pub(crate) fn run_job(job: Job, writes: &mut [u32]) -> RunAnswer
     requires { ⌜ ReadyToRun job ⌝ }
     ensures { λ r. ⌜ RunsJob job (now (writes .entry)) (now (writes .exit)) r ⌝ }
 {
-    let state = job.state;
-    let slot = state::slot_of(state, executing_slot(state));
-    let flags = state.flags;
+    let a = job.state.a;
+    let b = job.state.b;
+    let slot = executing(job.state.family, a, b);
+    let flags = job.state.flags;
     run_code(
-        state.family,
-        &state.code,
-        &state.marks,
+        job.state.family,
+        &job.state.code,
+        &job.state.marks,
         slot,
         flags,
-        state.enable,
+        job.state.enable,
         &job.clocks,
         &job.known,
         &job.values,
