@@ -8,24 +8,12 @@ use crate::reports;
 use crate::scripts::{self, ranges, Script};
 use crate::witnesses;
 use hwsq::REPORT_SIZE;
+use makers::jobs::damage::BYTES;
+use makers::random::Random;
 
 const SCRIPTS: usize = 24_000;
 const JOBS: usize = 5_000;
-
-struct Random(u64);
-
-impl Random {
-    fn below(&mut self, limit: usize) -> usize {
-        self.0 ^= self.0 << 13;
-        self.0 ^= self.0 >> 7;
-        self.0 ^= self.0 << 17;
-        (self.0 >> 20) as usize % limit
-    }
-
-    fn byte(&mut self) -> u8 {
-        self.below(256) as u8
-    }
-}
+const SEED: u64 = 1;
 
 /// Up to four bytes changed, and now and then a mark.
 fn damage(script: &mut Script, random: &mut Random) {
@@ -47,19 +35,8 @@ fn damaged(kinds: fn() -> Vec<Script>, random: &mut Random, mut compare: impl Fn
     }
 }
 
-/// Changed bytes, and a job cut off now and then.
-fn damaged_job(job: &mut Vec<u8>, random: &mut Random) {
-    for _ in 0..1 + random.below(2) {
-        let at = random.below(job.len());
-        job[at] = random.byte();
-    }
-    if random.below(5) == 0 {
-        job.truncate(random.below(job.len() + 1));
-    }
-}
-
 pub fn agree() {
-    let mut random = Random(0x9e37_79b9_7f4a_7c15);
+    let mut random = Random::of_case(SEED, 0, 0);
     let ranges = ranges();
     damaged(scripts::audited, &mut random, |script| {
         audits::agreed(script, &ranges);
@@ -71,7 +48,7 @@ pub fn agree() {
     let whole = [jobs::typical(), jobs::full(0x7f)];
     for round in 0..JOBS {
         let mut job = whole[round % whole.len()].clone();
-        damaged_job(&mut job, &mut random);
+        random.pick(&BYTES)(&mut random, &mut job);
         reports::agreed(&job, &mut out);
     }
     damaged(scripts::witnessed, &mut random, |script| {

@@ -1,11 +1,12 @@
 //! The replays: the proved one and the second program's.
 
-use crate::logs::{self, Log};
+use crate::logs;
 use crate::scripts::Script;
 use crate::table::Line;
 use crate::timing;
 use compare::{inputs, mirror};
 use hwsq::{Replayed, Start, ENTRIES};
+use makers::log::Columns;
 use second::Refusal;
 use std::hint::black_box;
 
@@ -19,25 +20,25 @@ const START: Start = Start {
     enable: true,
 };
 
-fn proved(script: &Script, log: &Log, writes: &mut Writes) -> Replayed {
-    hwsq::replay(script.lent(), START, log.columns(), writes)
+fn proved(script: &Script, log: &Columns, writes: &mut Writes) -> Replayed {
+    hwsq::replay(script.lent(), START, inputs::log(log), writes)
 }
 
 fn second(
     script: &Script,
-    log: &Log,
+    log: &Columns,
     writes: &mut Writes,
 ) -> Result<second::audit::Replayed, Refusal> {
     second::audit::replay(
         inputs::script(script.lent()),
         inputs::registers(START),
-        inputs::columns(log.columns()),
+        inputs::columns(inputs::log(log)),
         writes,
     )
 }
 
 /// Both give the same answer and the same writes; the answer is given back.
-pub fn agreed(script: &Script, log: &Log) -> Replayed {
+pub fn agreed(script: &Script, log: &Columns) -> Replayed {
     let (mut ours, mut theirs) = ([7; ENTRIES], [7; ENTRIES]);
     let answer = proved(script, log, &mut ours);
     let second = mirror::replayed(second(script, log, &mut theirs));

@@ -1,10 +1,12 @@
 //! The scripts: 512 bytes on family 4, all uploaded, entered at 0, that pass or fail at their last byte.
 
+use makers::ranges;
+
 pub const FAMILY: u8 = 4;
 pub const CODE: usize = 512;
-const RANGES: u32 = 64;
-/// Of the ranges the last alone holds the addresses from here on.
-const FIRST: u32 = (RANGES - 1) * 0x1000;
+/// Where the first range begins; of the 64 the last alone holds the addresses that are poked.
+pub const FIRST_RANGE: u32 = 0;
+const FIRST: u32 = FIRST_RANGE + 63 * 0x1000;
 
 const EXIT: u8 = 0x7f;
 const UNKNOWN: u8 = 0xff;
@@ -41,10 +43,9 @@ impl Script {
     }
 }
 
+/// As many ranges as there may be.
 pub fn ranges() -> Vec<u32> {
-    (0..RANGES)
-        .flat_map(|i| [i * 0x1000, i * 0x1000 + 0xfff])
-        .collect()
+    ranges::flat(&ranges::most(FIRST_RANGE))
 }
 
 /// What the auditor is timed on.

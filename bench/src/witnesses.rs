@@ -1,21 +1,25 @@
 //! The witnesses: the proved one and the second program's, and beside them the proved audit of the same script.
 
-use crate::logs::{self, Log};
+use crate::logs;
 use crate::scripts::{ranges, Script};
 use crate::table::Line;
 use crate::timing;
 use compare::{inputs, mirror};
 use hwsq::Shown;
+use makers::log::Columns;
 use second::witness::Witness;
 use second::Refusal;
 use std::hint::black_box;
 
-fn proved(script: &Script, ranges: &[u32], log: &mut Log) -> Shown {
-    hwsq::witness(script.lent(), ranges, log.lend())
+fn proved(script: &Script, ranges: &[u32], log: &mut Columns) -> Shown {
+    hwsq::witness(script.lent(), ranges, inputs::lend(log))
 }
 
-fn second(script: &Script, ranges: &[u32], log: &mut Log) -> Result<Witness, Refusal> {
-    let (script, lent) = (inputs::script(script.lent()), inputs::lent(log.lend()));
+fn second(script: &Script, ranges: &[u32], log: &mut Columns) -> Result<Witness, Refusal> {
+    let (script, lent) = (
+        inputs::script(script.lent()),
+        inputs::lent(inputs::lend(log)),
+    );
     second::witness::witness(script, ranges, lent)
 }
 

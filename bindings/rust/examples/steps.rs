@@ -5,7 +5,11 @@ use hwsq::{Log, Script, Start, State};
 
 const FAMILY: u8 = 3;
 const RAM: usize = 256;
-const LOG: Log = Log { clocks: &[100, 50], known: &[0, 2], values: &[0, 0] };
+const LOG: Log = Log {
+    clocks: &[100, 50],
+    known: &[0, 2],
+    values: &[0, 0],
+};
 const RANGES: [u32; 2] = [0x0010_1600, 0x0010_1603];
 
 // Kinds of instruction, modes and effects of include/hwsq.h.
@@ -38,7 +42,10 @@ fn spelled() -> Vec<u8> {
         let mut out = [0xee; 6];
         let wrote = hwsq::encode(FAMILY, kind, first, second, &mut out);
         assert_eq!(wrote.refusal, 0);
-        assert!(out[wrote.length..].iter().all(|&b| b == 0xee), "bytes past the spelling stay as lent");
+        assert!(
+            out[wrote.length..].iter().all(|&b| b == 0xee),
+            "bytes past the spelling stay as lent"
+        );
         let read = hwsq::decode(FAMILY, &out);
         assert_eq!((read.kind, read.first, read.second), (kind, first, second));
         assert_eq!((read.refusal, read.length), (0, wrote.length));
@@ -60,7 +67,10 @@ fn started(bytes: &[u8]) -> State {
         let mut four = [0x7f; 4];
         four[..word.len()].copy_from_slice(word);
         state = written(&state, 0x1400 + 4 * i as u32, u32::from_le_bytes(four));
-        assert_eq!(hwsq::read(&state, 0x1400 + 4 * i as u32).word, u32::from_le_bytes(four));
+        assert_eq!(
+            hwsq::read(&state, 0x1400 + 4 * i as u32).word,
+            u32::from_le_bytes(four)
+        );
     }
     state = written(&state, 0x1098, 8);
     written(&state, 0x130c, 3)
@@ -89,33 +99,80 @@ fn stepped(start: State) -> (State, usize, u64, Vec<u32>, u64, u64) {
 
 fn agrees(first: State) {
     let (state, row, used, writes, waited, searched) = stepped(first);
-    let script = Script { family: FAMILY, code: &first.code[..RAM], marks: &first.marks[..RAM], entry: 0 };
-    let start = Start { addr: 0, data: 0, flags_0: 0, flags_1: 0, enable: true };
+    let script = Script {
+        family: FAMILY,
+        code: &first.code[..RAM],
+        marks: &first.marks[..RAM],
+        entry: 0,
+    };
+    let start = Start {
+        addr: 0,
+        data: 0,
+        flags_0: 0,
+        flags_1: 0,
+        enable: true,
+    };
     let mut entries = [0xeeee_eeee; hwsq::ENTRIES];
     let verdict = hwsq::audit(script, &RANGES);
     let told = hwsq::replay(script, start, LOG, &mut entries);
     println!("{verdict:?}");
     println!("{told:?}");
-    assert_eq!((told.ip, told.addr, told.data), (state.a.ip, state.a.addr, state.a.data));
+    assert_eq!(
+        (told.ip, told.addr, told.data),
+        (state.a.ip, state.a.addr, state.a.data)
+    );
     assert_eq!(told.flags_0, hwsq::read(&state, 0x1310).word);
     assert_eq!(told.flags_1, hwsq::read(&state, 0x1314).word);
-    assert_eq!((told.row, told.used, told.waited, told.searched), (row, used, waited, searched));
+    assert_eq!(
+        (told.row, told.used, told.waited, told.searched),
+        (row, used, waited, searched)
+    );
     assert_eq!(entries[..2 * told.writes], writes[..]);
-    assert!(entries[2 * told.writes..].iter().all(|&e| e == 0xeeee_eeee), "entries past the writes stay as lent");
+    assert!(
+        entries[2 * told.writes..].iter().all(|&e| e == 0xeeee_eeee),
+        "entries past the writes stay as lent"
+    );
     println!("status {:08x}", hwsq::read(&state, 0x1308).word);
+}
+
+/// Family, kind, first operand and lent bytes that the writer refuses.
+const UNWRITABLE: [(u8, u8, u32, usize); 7] = [
+    (0, 1, 0, 6),
+    (1, ADDRLO, 70000, 6),
+    (2, ADDRLO, 70000, 6),
+    (2, 0, 0, 6),
+    (2, 11, 0, 6),
+    (2, WAIT, 300, 6),
+    (2, ADDR, 0, 4),
+];
+
+/// Refused calls of reader and writer leave what they were lent.
+fn codec_refusals() {
+    let mut out = [0xee; 6];
+    for (family, kind, first, lent) in UNWRITABLE {
+        let answer = hwsq::encode(family, kind, first, 0, &mut out[..lent]);
+        println!("encode {family} {kind} {first} {lent}: {answer:?}");
+    }
+    assert_eq!(out, [0xee; 6]);
+    println!("decode: {:?}", hwsq::decode(1, &[0x40, 0, 0]));
 }
 
 /// Refused calls leave what they were lent, and hand back the state that they were given.
 fn refusals(state: State) {
-    let mut out = [0xee; 6];
-    for (family, kind, first, lent) in [(0, 1, 0, 6), (1, ADDRLO, 70000, 6), (2, ADDRLO, 70000, 6), (2, 0, 0, 6), (2, 11, 0, 6), (2, WAIT, 300, 6), (2, ADDR, 0, 4)] {
-        println!("encode {family} {kind} {first} {lent}: {:?}", hwsq::encode(family, kind, first, 0, &mut out[..lent]));
-    }
-    assert_eq!(out, [0xee; 6]);
-    println!("decode: {:?}", hwsq::decode(1, &[0x40, 0, 0]));
     let mut few = [0xeeee_eeee; hwsq::ENTRIES - 1];
-    let script = Script { family: FAMILY, code: &state.code[..RAM], marks: &state.marks[..RAM], entry: 0 };
-    let start = Start { addr: 0, data: 0, flags_0: 0, flags_1: 0, enable: true };
+    let script = Script {
+        family: FAMILY,
+        code: &state.code[..RAM],
+        marks: &state.marks[..RAM],
+        entry: 0,
+    };
+    let start = Start {
+        addr: 0,
+        data: 0,
+        flags_0: 0,
+        flags_1: 0,
+        enable: true,
+    };
     println!("replay: {:?}", hwsq::replay(script, start, LOG, &mut few));
     assert!(few.iter().all(|&e| e == 0xeeee_eeee));
     for (address, word) in [(0x1308, 0), (0x1400, 0)] {
@@ -126,21 +183,39 @@ fn refusals(state: State) {
     println!("read 00130c: {:?}", hwsq::read(&state, 0x130c));
     let step = hwsq::step(&state, 0, LOG, 3, 0);
     assert_eq!(step.state, state);
-    println!("step: {} {} row {} used {}", step.refusal, step.effect, step.row, step.used);
+    println!(
+        "step: {} {} row {} used {}",
+        step.refusal, step.effect, step.row, step.used
+    );
     println!("fresh: {}", hwsq::fresh(5).refusal);
 }
 
 fn samples() {
     let [low, high, gain, offset] = [0.5f32, 2.0, 2.0, 0.25].map(f32::to_bits);
-    for (gate, raw) in [(0, 0.125f32), (0, 0.5), (0, 0.875), (1, 0.875), (2, 0.875), (3, 0.875), (0, f32::INFINITY)] {
-        println!("sample {gate} {raw}: {:?}", hwsq::sample(gate, low, high, gain, offset, raw.to_bits()));
+    for (gate, raw) in [
+        (0, 0.125f32),
+        (0, 0.5),
+        (0, 0.875),
+        (1, 0.875),
+        (2, 0.875),
+        (3, 0.875),
+        (0, f32::INFINITY),
+    ] {
+        println!(
+            "sample {gate} {raw}: {:?}",
+            hwsq::sample(gate, low, high, gain, offset, raw.to_bits())
+        );
     }
-    println!("sample levels exchanged: {:?}", hwsq::sample(0, high, low, gain, offset, 0));
+    println!(
+        "sample levels exchanged: {:?}",
+        hwsq::sample(0, high, low, gain, offset, 0)
+    );
 }
 
 fn main() {
     let first = started(&spelled());
     agrees(first);
+    codec_refusals();
     refusals(first);
     samples();
 }

@@ -139,7 +139,14 @@ mod raw {
     #[link(name = "hwsq", kind = "static")]
     extern "C" {
         pub fn hwsq_decode(family: u8, bytes: *const u8, bytes_len: usize) -> Decoded;
-        pub fn hwsq_encode(family: u8, kind: u8, first: u32, second: u8, out: *mut u8, out_len: usize) -> Encoded;
+        pub fn hwsq_encode(
+            family: u8,
+            kind: u8,
+            first: u32,
+            second: u8,
+            out: *mut u8,
+            out_len: usize,
+        ) -> Encoded;
         pub fn hwsq_audit(
             family: u8,
             code: *const u8,
@@ -187,7 +194,14 @@ mod raw {
             writes: *mut u32,
             writes_len: usize,
         ) -> Replayed;
-        pub fn hwsq_sample(gate: u8, low: u32, high: u32, gain: u32, offset: u32, raw: u32) -> Sampled;
+        pub fn hwsq_sample(
+            gate: u8,
+            low: u32,
+            high: u32,
+            gain: u32,
+            offset: u32,
+            raw: u32,
+        ) -> Sampled;
         pub fn hwsq_fresh(family: u8) -> Access;
         pub fn hwsq_write(state: State, address: u32, word: u32) -> Access;
         pub fn hwsq_read(state: State, address: u32) -> Reading;
@@ -250,15 +264,14 @@ pub fn encode(family: u8, kind: u8, first: u32, second: u8, out: &mut [u8]) -> E
 }
 
 pub fn audit(script: Script, ranges: &[u32]) -> Verdict {
-    let Script { family, code, marks, entry } = script;
     unsafe {
         raw::hwsq_audit(
-            family,
-            code.as_ptr(),
-            code.len(),
-            marks.as_ptr(),
-            marks.len(),
-            entry,
+            script.family,
+            script.code.as_ptr(),
+            script.code.len(),
+            script.marks.as_ptr(),
+            script.marks.len(),
+            script.entry,
             ranges.as_ptr(),
             ranges.len(),
         )
@@ -267,51 +280,46 @@ pub fn audit(script: Script, ranges: &[u32]) -> Verdict {
 
 /// The log that shows the verdict is in the first `rows` entries of the columns.
 pub fn witness(script: Script, ranges: &[u32], columns: Columns) -> Shown {
-    let Script { family, code, marks, entry } = script;
-    let Columns { clocks, known, values } = columns;
     unsafe {
         raw::hwsq_witness(
-            family,
-            code.as_ptr(),
-            code.len(),
-            marks.as_ptr(),
-            marks.len(),
-            entry,
+            script.family,
+            script.code.as_ptr(),
+            script.code.len(),
+            script.marks.as_ptr(),
+            script.marks.len(),
+            script.entry,
             ranges.as_ptr(),
             ranges.len(),
-            clocks.as_mut_ptr(),
-            clocks.len(),
-            known.as_mut_ptr(),
-            known.len(),
-            values.as_mut_ptr(),
-            values.len(),
+            columns.clocks.as_mut_ptr(),
+            columns.clocks.len(),
+            columns.known.as_mut_ptr(),
+            columns.known.len(),
+            columns.values.as_mut_ptr(),
+            columns.values.len(),
         )
     }
 }
 
 pub fn replay(script: Script, start: Start, log: Log, writes: &mut [u32]) -> Replayed {
-    let Script { family, code, marks, entry } = script;
-    let Start { addr, data, flags_0, flags_1, enable } = start;
-    let Log { clocks, known, values } = log;
     unsafe {
         raw::hwsq_replay(
-            family,
-            code.as_ptr(),
-            code.len(),
-            marks.as_ptr(),
-            marks.len(),
-            entry,
-            addr,
-            data,
-            flags_0,
-            flags_1,
-            enable,
-            clocks.as_ptr(),
-            clocks.len(),
-            known.as_ptr(),
-            known.len(),
-            values.as_ptr(),
-            values.len(),
+            script.family,
+            script.code.as_ptr(),
+            script.code.len(),
+            script.marks.as_ptr(),
+            script.marks.len(),
+            script.entry,
+            start.addr,
+            start.data,
+            start.flags_0,
+            start.flags_1,
+            start.enable,
+            log.clocks.as_ptr(),
+            log.clocks.len(),
+            log.known.as_ptr(),
+            log.known.len(),
+            log.values.as_ptr(),
+            log.values.len(),
             writes.as_mut_ptr(),
             writes.len(),
         )
@@ -336,17 +344,16 @@ pub fn read(state: &State, address: u32) -> Reading {
 }
 
 pub fn step(state: &State, slot: u8, log: Log, row: usize, used: u64) -> Stepped {
-    let Log { clocks, known, values } = log;
     unsafe {
         raw::hwsq_step(
             *state,
             slot,
-            clocks.as_ptr(),
-            clocks.len(),
-            known.as_ptr(),
-            known.len(),
-            values.as_ptr(),
-            values.len(),
+            log.clocks.as_ptr(),
+            log.clocks.len(),
+            log.known.as_ptr(),
+            log.known.len(),
+            log.values.as_ptr(),
+            log.values.len(),
             row,
             used,
         )

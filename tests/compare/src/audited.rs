@@ -1,10 +1,10 @@
 //! What is audited: a script in code RAM, and the words of the ranges.
 
 use crate::ram::Ram;
-use crate::random::Random;
-use crate::ranges;
 use crate::show;
 use crate::shrink::Shrinker;
+use makers::random::Random;
+use makers::ranges;
 
 /// A script about to be audited.
 #[derive(Clone, PartialEq)]

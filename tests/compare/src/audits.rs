@@ -3,10 +3,10 @@
 use crate::audited::Audited;
 use crate::outcomes::Group;
 use crate::part::{Part, Tally};
-use crate::random::Random;
 use crate::shrink::Shrinker;
 use compare::{inputs, mirror};
 use hwsq::Verdict;
+use makers::random::Random;
 
 const SALT: u64 = 5;
 

@@ -2,10 +2,10 @@
 
 use crate::outcomes::Group;
 use crate::part::{Part, Tally};
-use crate::random::Random;
 use crate::show;
 use crate::shrink::Shrinker;
 use hwsq::Sampled;
+use makers::random::Random;
 use second::probe::{self, Calibration, Gate};
 
 const SALT: u64 = 7;

@@ -1,9 +1,9 @@
-//! What goes into the proved calls, in the second program's types.
+//! What goes into the calls, in the types of either side.
 
 use hwsq::{Log, Script, Start};
+use makers::log::Columns;
 use second::audit::{self, Registers};
 use second::isa::{CodeAddress, MmioAddress};
-use second::log::Columns;
 use second::witness::Lent;
 
 /// The script; entry points are below 2^32, as the second program's code addresses are.
@@ -32,6 +32,24 @@ pub fn registers(start: Start) -> Registers {
     }
 }
 
+/// Made columns as the proved calls take a log.
+pub fn log(columns: &Columns) -> Log<'_> {
+    Log {
+        clocks: &columns.clocks,
+        known: &columns.known,
+        values: &columns.values,
+    }
+}
+
+/// Made columns as they are lent to the proved witness.
+pub fn lend(columns: &mut Columns) -> hwsq::Columns<'_> {
+    hwsq::Columns {
+        clocks: &mut columns.clocks,
+        known: &mut columns.known,
+        values: &mut columns.values,
+    }
+}
+
 /// Columns that are lent for a log.
 pub fn lent(columns: hwsq::Columns) -> Lent {
     Lent {
@@ -41,8 +59,8 @@ pub fn lent(columns: hwsq::Columns) -> Lent {
     }
 }
 
-pub fn columns(log: Log) -> Columns {
-    Columns {
+pub fn columns(log: Log) -> second::log::Columns {
+    second::log::Columns {
         clocks: log.clocks,
         known: log.known,
         values: log.values,

@@ -1,19 +1,15 @@
 //! Jobs: sound, damaged, cut, reordered and over every limit; the reports must be equal to the byte.
 
-mod damage;
-mod draft;
-mod making;
-mod records;
 mod reports;
 mod shorten;
 
 use crate::outcomes::Group;
 use crate::part::{Part, Tally};
-use crate::random::Random;
 use crate::show;
 use crate::shrink::{zeroed, Shrinker};
+use makers::jobs::{job, records};
+use makers::random::Random;
 
-use making::job;
 pub use reports::Reports;
 
 const SALT: u64 = 4;

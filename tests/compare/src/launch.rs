@@ -1,9 +1,9 @@
 //! What a replay starts from: a script in code RAM, and the registers.
 
 use crate::ram::Ram;
-use crate::random::Random;
 use crate::shrink::Shrinker;
 use hwsq::Start;
+use makers::random::Random;
 
 /// A script about to run.
 #[derive(Clone)]

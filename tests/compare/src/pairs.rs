@@ -7,13 +7,13 @@ mod making;
 mod runs;
 
 use crate::launch::Launch;
-use crate::log::Row;
 use crate::outcomes::Group;
 use crate::part::{Part, Tally};
-use crate::random::Random;
 use crate::show;
 use crate::shrink::Shrinker;
 use case::{Case, Filling};
+use makers::log::Row;
+use makers::random::Random;
 use runs::{second_ends, Run};
 use second::more_log::WaitEnd;
 use second::Refusal;
@@ -106,7 +106,7 @@ impl Part for Pairs {
     fn input(&self, case: &Case) -> String {
         let replay = case.launch.told(hwsq::ENTRIES);
         let logs = [case.first_log(), case.second_log()];
-        let calls = logs.map(|log| format!("{}\n{replay}", log.told()));
+        let calls = logs.map(|log| format!("{}\n{replay}", show::log(&log)));
         calls.join("\n")
     }
 

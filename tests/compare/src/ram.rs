@@ -1,12 +1,12 @@
 //! Code RAM handed in as two slices, fit or not: the input of auditor and replay.
 
-use crate::compose;
-use crate::random::Random;
-use crate::ranges::Range;
-use crate::script::{size_of, Script};
 use crate::show;
 use crate::shrink::{zeroed, Shrinker};
-use crate::upload::image;
+use makers::compose;
+use makers::random::Random;
+use makers::ranges::Range;
+use makers::script::{size_of, Script};
+use makers::upload::image;
 
 /// How code and marks are made from a script, so that a shrinker can drop its instructions.
 #[derive(Clone, Debug, PartialEq)]

@@ -1,16 +1,16 @@
 //! Replay, called with any registers, lent entries and log.
 
 use crate::launch::Launch;
-use crate::log::{Log, Row};
 use crate::outcomes::Group;
 use crate::part::{Part, Tally};
 use crate::ram::Ram;
-use crate::random::Random;
-use crate::ranges;
 use crate::show;
 use crate::shrink::Shrinker;
 use compare::{inputs, mirror};
 use hwsq::{Replayed, ENTRIES};
+use makers::log::{Log, Row};
+use makers::random::Random;
+use makers::ranges;
 
 const SALT: u64 = 6;
 /// What the entries hold before; neither address nor data of most writes.
@@ -40,12 +40,12 @@ fn answers(case: &Case) -> (Answer, Answer) {
     let columns = case.log.columns();
     let script = ram.lent(&code, &marks);
     let mut entries = vec![LENT; case.lent];
-    let proved = hwsq::replay(script, *start, columns.lent(), &mut entries);
+    let proved = hwsq::replay(script, *start, inputs::log(&columns), &mut entries);
     let mut others = vec![LENT; case.lent];
     let second = second::audit::replay(
         inputs::script(script),
         inputs::registers(*start),
-        inputs::columns(columns.lent()),
+        inputs::columns(inputs::log(&columns)),
         &mut others,
     );
     ((proved, entries), (mirror::replayed(second), others))
@@ -115,7 +115,7 @@ impl Part for Replays {
     }
 
     fn input(&self, case: &Case) -> String {
-        let (log, replay) = (case.log.columns().told(), case.launch.told(case.lent));
+        let (log, replay) = (show::log(&case.log.columns()), case.launch.told(case.lent));
         format!("{log}\n{replay}")
     }
 

@@ -1,6 +1,7 @@
 //! How numbers, bytes, lists and states are printed.
 
 use hwsq::State;
+use makers::log::Columns;
 pub use second::show::bytes;
 
 /// A number with a comma after each thousand.
@@ -33,6 +34,16 @@ pub fn list(items: impl Iterator<Item = String>) -> String {
         return "-".to_string();
     }
     items.join(" ")
+}
+
+/// A log as docs/VECTORS.md writes it.
+pub fn log(columns: &Columns) -> String {
+    format!(
+        "log {} known {} values {}",
+        numbers(&columns.clocks),
+        words(&columns.known),
+        words(&columns.values)
+    )
 }
 
 /// A state in a line; code as hex, and the marks as ones.

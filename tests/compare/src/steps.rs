@@ -4,12 +4,12 @@ mod bench;
 mod making;
 mod session;
 
-use crate::log::Row;
 use crate::outcomes::Group;
 use crate::part::{Part, Tally};
-use crate::random::Random;
 use crate::shrink::{zeroed, Shrinker};
 use bench::Bench;
+use makers::log::Row;
+use makers::random::Random;
 use session::{Action, Session};
 
 const SALT: u64 = 3;

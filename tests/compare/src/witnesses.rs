@@ -10,11 +10,11 @@ mod start;
 use crate::audited::Audited;
 use crate::outcomes::Group;
 use crate::part::{Part, Tally};
-use crate::random::Random;
 use crate::shrink::Shrinker;
 use case::Case;
 use findings::Findings;
 use hwsq::{Shown, SHOWN_ROWS};
+use makers::random::Random;
 use start::Start;
 
 const SALT: u64 = 9;

@@ -2,13 +2,8 @@
 
 mod arguments;
 mod check;
-mod code;
-mod damage;
 mod input;
-mod make;
 mod process;
-mod random;
-mod records;
 mod seeds;
 mod tally;
 mod worker;

@@ -1,5 +1,6 @@
 //! The worked jobs: hex text with comment lines.
 
+use calls::hex;
 use std::fs;
 use std::path::Path;
 
@@ -14,20 +15,9 @@ pub fn read(folder: &Path) -> Vec<Vec<u8>> {
     assert!(!files.is_empty(), "no worked jobs in the folder");
     files
         .iter()
-        .map(|file| decode(&fs::read_to_string(file).expect("a worked job cannot be read")))
-        .collect()
-}
-
-fn decode(text: &str) -> Vec<u8> {
-    let digits: Vec<u8> = text
-        .lines()
-        .filter(|line| !line.starts_with('#'))
-        .flat_map(str::chars)
-        .filter_map(|letter| letter.to_digit(16))
-        .map(|digit| digit as u8)
-        .collect();
-    digits
-        .chunks_exact(2)
-        .map(|pair| pair[0] * 16 + pair[1])
+        .map(|file| {
+            let text = fs::read_to_string(file).expect("a worked job cannot be read");
+            hex::job(&text).expect("a worked job is no hex")
+        })
         .collect()
 }

@@ -3,10 +3,10 @@
 use super::{unit_of, UNITS};
 use crate::outcomes::Group;
 use crate::part::{Part, Tally};
-use crate::random::Random;
 use crate::show;
 use crate::shrink::Shrinker;
 use compare::mirror;
+use makers::random::Random;
 
 const SALT: u64 = 1;
 /// Lengths 0 to 6; the longest instruction has 5 bytes.

@@ -3,10 +3,10 @@
 use super::{unit_of, UNITS};
 use crate::outcomes::Group;
 use crate::part::{Part, Tally};
-use crate::random::Random;
 use crate::show;
 use compare::mirror;
 use hwsq::{Decoded, Encoded};
+use makers::random::Random;
 use second::isa::{Instruction, MmioAddress};
 
 const SALT: u64 = 2;

@@ -1,7 +1,7 @@
 //! Making a job's script shorter, which no dropped record or byte can do: the code behind moves down.
 
-use super::records;
-use crate::registers::{CODE, ENTRY_POINT, ENTRY_POINT_HIGH, NEW_CODE};
+use makers::jobs::records;
+use makers::registers::{CODE, ENTRY_POINT, ENTRY_POINT_HIGH, NEW_CODE};
 use std::collections::BTreeMap;
 
 /// A job whose code writes are taken out of its records and kept as bytes by place.

@@ -1,7 +1,7 @@
 //! A script and two logs for it, kept as the way the second log is made from the first.
 
 use crate::launch::Launch;
-use crate::log::{Columns, Row};
+use makers::log::{Columns, Row};
 use second::more_log::{filled_in, Masks};
 
 /// A row of the first log, and what the second log's row is filled in from.

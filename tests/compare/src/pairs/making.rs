@@ -1,12 +1,12 @@
 //! Random pairs: a script with many waits, a log that lacks readings, and more of it.
 
 use super::case::{Case, Filling};
-use crate::compose;
 use crate::launch::Launch;
-use crate::log::{self, Log, Row, MOST_ROWS};
 use crate::ram::Ram;
-use crate::random::Random;
-use crate::ranges;
+use makers::compose;
+use makers::log::{self, Log, Row, MOST_ROWS};
+use makers::random::Random;
+use makers::ranges;
 use second::more_log::Masks;
 
 /// A case with rows added, readings filled in, both or, at times, neither.

@@ -1,10 +1,10 @@
 //! A script's run under a log: the proved one, and when the second program's waits ended.
 
 use crate::launch::Launch;
-use crate::log::Columns;
-use crate::registers::{CONTROL, FLAGS_0, FLAGS_1};
 use compare::inputs;
 use hwsq::{Replayed, Slot, State, Stepped, ENTRIES};
+use makers::log::Columns;
+use makers::registers::{CONTROL, FLAGS_0, FLAGS_1};
 use second::more_log::{self, WaitEnd};
 use second::Refusal;
 
@@ -33,7 +33,7 @@ impl Run {
         let (code, marks) = launch.ram.slices();
         let mut entries = vec![0; ENTRIES];
         let script = launch.ram.lent(&code, &marks);
-        let answer = hwsq::replay(script, launch.start, log.lent(), &mut entries);
+        let answer = hwsq::replay(script, launch.start, inputs::log(log), &mut entries);
         let mut run = Run {
             answer,
             entries,
@@ -48,7 +48,7 @@ impl Run {
     fn step(&mut self, mut state: State, log: &Columns) {
         let (mut row, mut used) = (0, 0);
         while state.a.mode == RUNNING {
-            let step = hwsq::step(&state, 0, log.lent(), row, used);
+            let step = hwsq::step(&state, 0, inputs::log(log), row, used);
             if step.effect <= STOPPED {
                 return;
             }
@@ -119,6 +119,6 @@ pub fn second_ends(launch: &Launch, log: &Columns) -> Result<Vec<WaitEnd>, Refus
     more_log::wait_ends(
         inputs::script(ram.lent(&code, &marks)),
         inputs::registers(*start),
-        inputs::columns(log.lent()),
+        inputs::columns(inputs::log(log)),
     )
 }

@@ -1,13 +1,13 @@
 //! Both machines side by side.
 
 use super::session::{Action, Session};
-use crate::log::Columns;
 use crate::outcomes::Group;
 use crate::part::Tally;
-use crate::registers;
 use crate::show;
 use compare::{inputs, mirror};
 use hwsq::{Access, State, Stepped};
+use makers::log::Columns;
+use makers::registers;
 use second::isa::{CodeAddress, MmioAddress};
 use second::log::Place;
 use second::machine::{self, Activity, Slot};
@@ -99,7 +99,7 @@ impl Bench {
 
     fn step(&mut self, slot: u8, columns: &Columns, tally: &mut Tally) -> Option<String> {
         let from = self.place;
-        let log = columns.lent();
+        let log = inputs::log(columns);
         let proved = hwsq::step(&self.proved, slot, log, from.row, from.used);
         count_step(&proved, slot, tally);
         let name = if slot == 0 { Slot::A } else { Slot::B };

@@ -1,13 +1,13 @@
 //! Random sessions: a script is uploaded, started and stepped to its end, at times with interference.
 
 use super::session::{Action, Session};
-use crate::compose;
-use crate::log::Log;
-use crate::random::Random;
-use crate::ranges;
-use crate::registers::{self, CONTROL, ENTRY_POINT, ENTRY_POINT_HIGH, FLAGS_0, FLAGS_1, TRIGGER};
-use crate::script::Script;
-use crate::upload::Upload;
+use makers::compose;
+use makers::log::Log;
+use makers::random::Random;
+use makers::ranges;
+use makers::registers::{self, CONTROL, ENTRY_POINT, ENTRY_POINT_HIGH, FLAGS_0, FLAGS_1, TRIGGER};
+use makers::script::Script;
+use makers::upload::Upload;
 
 /// A whole session.
 pub fn session(random: &mut Random) -> Session {

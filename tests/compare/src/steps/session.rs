@@ -1,9 +1,10 @@
 //! A session with a machine: a script, a log, and what the host and the clock do.
 
-use crate::log::Log;
-use crate::registers::{self, ENTRY_POINT, ENTRY_POINT_HIGH};
-use crate::script::Script;
-use crate::upload::Upload;
+use crate::show;
+use makers::log::Log;
+use makers::registers::{self, ENTRY_POINT, ENTRY_POINT_HIGH};
+use makers::script::Script;
+use makers::upload::Upload;
 
 /// One thing done to both machines.
 #[derive(Clone, Debug, PartialEq)]
@@ -143,7 +144,10 @@ impl Session {
 
     /// The session as lines of docs/VECTORS.md.
     pub fn told(&self) -> String {
-        let mut lines = vec![format!("fresh {}", self.family), self.log.columns().told()];
+        let mut lines = vec![
+            format!("fresh {}", self.family),
+            show::log(&self.log.columns()),
+        ];
         lines.extend(self.actions.iter().map(Action::told));
         lines.join("\n")
     }

@@ -2,7 +2,7 @@
 
 use super::start::Start;
 use crate::audited::Audited;
-use crate::log::Columns;
+use makers::log::Columns;
 
 /// What lent entries hold before a call, as docs/VECTORS.md has it; neither is in the log of a witness.
 pub const LENT_CLOCKS: u64 = 10;

@@ -4,10 +4,10 @@ use super::case::Case;
 use super::claim::{Claim, Objection};
 use super::laws;
 use crate::audited::Audited;
-use crate::log::Columns;
 use crate::show;
 use compare::{inputs, mirror};
 use hwsq::{Script, Shown};
+use makers::log::Columns;
 use second::witness::{witness, Witness};
 
 /// An answer and the lent columns after it.
@@ -31,8 +31,12 @@ impl Findings {
         let (code, marks) = ram.slices();
         let script = ram.lent(&code, &marks);
         let [mut ours, mut theirs] = [case.columns(), case.columns()];
-        let shown = hwsq::witness(script, ranges, ours.lend());
-        let told = witness(inputs::script(script), ranges, inputs::lent(theirs.lend()));
+        let shown = hwsq::witness(script, ranges, inputs::lend(&mut ours));
+        let told = witness(
+            inputs::script(script),
+            ranges,
+            inputs::lent(inputs::lend(&mut theirs)),
+        );
         let proved = Answer {
             shown,
             columns: ours,
@@ -94,7 +98,7 @@ impl Answer {
         let claim = Claim {
             script: inputs::script(script),
             ranges: &case.audited.ranges,
-            columns: inputs::columns(self.columns.lent()),
+            columns: inputs::columns(inputs::log(&self.columns)),
             witness: Witness {
                 verdict: told.verdict,
                 rows,
@@ -110,7 +114,7 @@ impl Answer {
     /// The answer, and the log with an entry more.
     fn told(&self) -> String {
         let columns = self.columns.first(self.shown.rows.saturating_add(1));
-        format!("{:?} {}", self.shown, columns.told())
+        format!("{:?} {}", self.shown, show::log(&columns))
     }
 }
 

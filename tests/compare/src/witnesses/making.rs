@@ -4,9 +4,9 @@ use super::case::Case;
 use super::start::Start;
 use crate::audited::Audited;
 use crate::ram::Ram;
-use crate::random::Random;
-use crate::script::{has_pokes, size_of};
 use hwsq::SHOWN_ROWS;
+use makers::random::Random;
+use makers::script::{has_pokes, size_of};
 
 const EWAIT: u8 = 0x5f;
 

@@ -1,6 +1,6 @@
 //! Starts of a script: what a start must be is put over a state in which all is random.
 
-use crate::random::Random;
+use makers::random::Random;
 use second::audit::Script;
 use second::isa::{self, CodeAddress, MmioAddress, LARGEST_CODE};
 use second::machine::{Activity, Slot, SlotState, State};

@@ -1,15 +1,32 @@
 //! Calls on the auditor.
 
-use crate::script::{Ram, Script};
-use crate::words::{Answer, Read, Words};
+use calls::script::{Ram, Script};
+use calls::words::{Answer, Read, Words};
 use second::audit::{self, Verdict};
-use second::isa::MmioAddress;
+use second::isa::{self, CodeAddress, MmioAddress};
 use second::show;
 
 pub fn audit(ram: Ram, words: &mut Words) -> Answer {
-    let script = Script::read(ram, words)?;
-    let ranges = ranges(words)?;
-    Ok(Some(verdict(audit::audit(script.slices(), &ranges))))
+    let script = script(ram, words)?;
+    let ranges = words.ranges()?;
+    Ok(Some(verdict(audit::audit(slices(&script), &ranges))))
+}
+
+/// The script of a call.
+pub fn script(ram: Ram, words: &mut Words) -> Read<Script> {
+    Script::read(ram, words, |family| {
+        isa::code_size(family).expect("a known family")
+    })
+}
+
+/// The script as the library takes it.
+pub fn slices(script: &Script) -> audit::Script<'_> {
+    audit::Script {
+        family: script.family,
+        code: &script.code,
+        marks: &script.marks,
+        entry: CodeAddress(script.entry),
+    }
 }
 
 /// A verdict with its place, and a pass with its counts.
@@ -25,12 +42,6 @@ pub fn verdict(verdict: Verdict) -> String {
 
 pub fn listed(words: &mut Words) -> Answer {
     let address = MmioAddress(words.word()?);
-    let held = audit::listed(&ranges(words)?, address);
+    let held = audit::listed(&words.ranges()?, address);
     Ok(Some(show::yes_or_no(held).to_string()))
-}
-
-/// Each number of the ranges, which need not come in pairs.
-pub fn ranges(words: &mut Words) -> Read<Vec<u32>> {
-    words.fixed("ranges")?;
-    words.list(Words::word)
 }

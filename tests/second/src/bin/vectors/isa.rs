@@ -1,6 +1,6 @@
 //! Calls on families, the reader and the writer.
 
-use crate::words::{wrong, Answer, Read, Words};
+use calls::words::{wrong, Answer, Read, Words};
 use second::isa::{self, Instruction, MmioAddress};
 use second::{show, Refusal};
 

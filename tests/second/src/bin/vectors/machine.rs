@@ -1,6 +1,6 @@
 //! Calls on the host's registers and the step machine.
 
-use crate::words::{wrong, Answer, Read, Words};
+use calls::words::{wrong, Answer, Read, Words};
 use second::isa::{CodeAddress, MmioAddress};
 use second::log::{Columns, Place};
 use second::machine::{self as library, Activity, Did, Slot, SlotState, State, Stop};

@@ -1,6 +1,6 @@
 //! The call on probe gates.
 
-use crate::words::{wrong, Answer, Read, Words};
+use calls::words::{wrong, Answer, Read, Words};
 use second::probe::{self, Calibration, Gate};
 use second::show;
 

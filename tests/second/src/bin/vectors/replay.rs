@@ -1,7 +1,8 @@
 //! Calls on the replay.
 
-use crate::script::{Ram, Script};
-use crate::words::{Answer, Read, Words};
+use crate::audit::{script, slices};
+use calls::script::Ram;
+use calls::words::{Answer, Words};
 use second::audit::{self as library, Registers, Replayed};
 use second::isa::MmioAddress;
 use second::log::Columns;
@@ -16,11 +17,11 @@ const SHOWN_PAST: usize = 2;
 
 /// The answer of a replay and the first of the entries lent to it.
 pub fn replay(ram: Ram, words: &mut Words, log: Columns) -> Answer {
-    let script = Script::read(ram, words)?;
-    let registers = registers(words)?;
+    let script = script(ram, words)?;
+    let registers = registers(calls::registers::Registers::read(words)?);
     words.fixed("lent")?;
     let mut entries = vec![LENT; words.at_most(MOST_LENT)?];
-    let answer = library::replay(script.slices(), registers, log, &mut entries);
+    let answer = library::replay(slices(&script), registers, log, &mut entries);
     let written = answer.map_or(0, |replayed| 2 * replayed.run.writes as usize);
     let mut line = show::answer(answer.map(ended)) + " lent";
     for entry in entries.iter().take(written + SHOWN_PAST) {
@@ -29,23 +30,15 @@ pub fn replay(ram: Ram, words: &mut Words, log: Columns) -> Answer {
     Ok(Some(line))
 }
 
-/// The registers a replay starts with.
-fn registers(words: &mut Words) -> Read<Registers> {
-    words.fixed("addr")?;
-    let addr = MmioAddress(words.word()?);
-    words.fixed("data")?;
-    let data = words.word()?;
-    words.fixed("flags")?;
-    let (flags_0, flags_1) = (words.word()?, words.word()?);
-    words.fixed("enable")?;
-    let hwsq_enable = words.one_of("yes or no", &[true, false], show::yes_or_no)?;
-    Ok(Registers {
-        addr,
-        data,
-        flags_0,
-        flags_1,
-        hwsq_enable,
-    })
+/// The registers as the library takes them.
+fn registers(read: calls::registers::Registers) -> Registers {
+    Registers {
+        addr: MmioAddress(read.addr),
+        data: read.data,
+        flags_0: read.flags_0,
+        flags_1: read.flags_1,
+        hwsq_enable: read.enable,
+    }
 }
 
 /// A replay that was not refused.

@@ -1,8 +1,8 @@
 //! Calls on the witness.
 
 use crate::audit;
-use crate::script::{Ram, Script};
-use crate::words::{Answer, Words};
+use calls::script::Ram;
+use calls::words::{Answer, Words};
 use second::show;
 use second::witness::{self as library, Lent, Witness};
 
@@ -16,8 +16,8 @@ const SHOWN_PAST: usize = 1;
 
 /// The answer of a witness and the first entries of each column lent to it.
 pub fn witness(ram: Ram, words: &mut Words) -> Answer {
-    let script = Script::read(ram, words)?;
-    let ranges = audit::ranges(words)?;
+    let script = audit::script(ram, words)?;
+    let ranges = words.ranges()?;
     words.fixed("lent")?;
     let mut clocks = vec![LENT_CLOCKS; words.at_most(MOST_LENT)?];
     let mut known = vec![LENT_MASK; words.at_most(MOST_LENT)?];
@@ -27,7 +27,7 @@ pub fn witness(ram: Ram, words: &mut Words) -> Answer {
         known: &mut known,
         values: &mut values,
     };
-    let answer = library::witness(script.slices(), &ranges, lent);
+    let answer = library::witness(audit::slices(&script), &ranges, lent);
     let shown = answer.map_or(0, |witness| witness.rows) + SHOWN_PAST;
     let mut line = show::answer(answer.map(told));
     line += &column("clocks", clocks.iter().take(shown).map(u64::to_string));

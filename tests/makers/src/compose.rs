@@ -43,27 +43,25 @@ pub fn waiting_script(random: &mut Random, family: u8, ranges: &[Range]) -> Scri
     composed(random, family, ranges, Blend::Waiting)
 }
 
+/// So many bytes of nothing but pokes in the first range, as many as there is room for, and exits behind them.
+pub fn pokes(random: &mut Random, ranges: &[Range], size: usize) -> Vec<u8> {
+    let mut composer = Composer::new(random, 4, ranges, Blend::Dense);
+    for _ in 0..size / 3 {
+        composer.instruction();
+    }
+    let mut code = composer.pieces.concat();
+    code.truncate(size - 1);
+    code.resize(size, EXIT);
+    code
+}
+
 fn composed(random: &mut Random, family: u8, ranges: &[Range], blend: Blend) -> Script {
-    let dense = blend == Blend::Dense;
-    let count = if dense {
+    let count = if blend == Blend::Dense {
         random.below(size_of(family) / 3)
     } else {
         length(random, family)
     };
-    let mut composer = Composer {
-        random,
-        family,
-        ranges: if dense {
-            &ranges[..ranges.len().min(1)]
-        } else {
-            ranges
-        },
-        addr: None,
-        data: false,
-        paused: false,
-        blend,
-        pieces: Vec::new(),
-    };
+    let mut composer = Composer::new(random, family, ranges, blend);
     for _ in 0..count {
         composer.instruction();
     }
@@ -102,7 +100,25 @@ fn place(random: &mut Random, family: u8, length: usize) -> usize {
     at.min(highest)
 }
 
-impl Composer<'_> {
+impl<'a> Composer<'a> {
+    fn new(random: &'a mut Random, family: u8, ranges: &'a [Range], blend: Blend) -> Composer<'a> {
+        let most = if blend == Blend::Dense {
+            1
+        } else {
+            ranges.len()
+        };
+        Composer {
+            random,
+            family,
+            ranges: &ranges[..ranges.len().min(most)],
+            addr: None,
+            data: false,
+            paused: false,
+            blend,
+            pieces: Vec::new(),
+        }
+    }
+
     /// Adds one instruction that this family has.
     fn instruction(&mut self) {
         match self.blend {

@@ -1,5 +1,6 @@
 //! The words of a line and the values they stand for.
 
+use crate::hex;
 use std::iter::Peekable;
 use std::str::Split;
 
@@ -22,6 +23,15 @@ pub struct Words<'a> {
 /// Why a word can't be read.
 pub fn wrong(word: &str, wanted: &str) -> String {
     format!("`{word}` where {wanted} should stand")
+}
+
+/// `yes` or `no`.
+pub fn yes_or_no(truth: bool) -> &'static str {
+    if truth {
+        "yes"
+    } else {
+        "no"
+    }
 }
 
 impl<'a> Words<'a> {
@@ -91,13 +101,13 @@ impl<'a> Words<'a> {
 
     /// Four hex digits.
     pub fn half(&mut self) -> Read<u16> {
-        let half = |word: &str| hex(word)?.try_into().ok();
+        let half = |word: &str| hex::bytes(word)?.try_into().ok();
         self.value("four hex digits", half).map(u16::from_be_bytes)
     }
 
     /// Eight hex digits.
     pub fn word(&mut self) -> Read<u32> {
-        let word = |word: &str| hex(word)?.try_into().ok();
+        let word = |word: &str| hex::bytes(word)?.try_into().ok();
         self.value("eight hex digits", word).map(u32::from_be_bytes)
     }
 
@@ -105,7 +115,7 @@ impl<'a> Words<'a> {
     pub fn bytes(&mut self) -> Read<Vec<u8>> {
         self.value("bytes as hex or -", |word| match word {
             "-" => Some(Vec::new()),
-            _ => hex(word),
+            _ => hex::bytes(word),
         })
     }
 
@@ -120,6 +130,12 @@ impl<'a> Words<'a> {
             list.push(item(self)?);
         }
         Ok(list)
+    }
+
+    /// Each number of the ranges, which need not come in pairs.
+    pub fn ranges(&mut self) -> Read<Vec<u32>> {
+        self.fixed("ranges")?;
+        self.list(Words::word)
     }
 
     /// Leaves the other words unread.
@@ -142,26 +158,7 @@ fn decimal(word: &str) -> Option<u64> {
     digits.then(|| word.parse().ok())?
 }
 
-/// Two hex digits a byte, at least one byte.
-fn hex(word: &str) -> Option<Vec<u8>> {
-    let pairs = word.as_bytes().chunks(2);
-    let bytes = pairs.map(|pair| match *pair {
-        [high, low] => Some(digit(high)? << 4 | digit(low)?),
-        _ => None,
-    });
-    bytes.collect::<Option<Vec<u8>>>().filter(|b| !b.is_empty())
-}
-
-/// A hex digit; capitals are none.
-fn digit(byte: u8) -> Option<u8> {
-    match byte {
-        b'0'..=b'9' => Some(byte - b'0'),
-        b'a'..=b'f' => Some(byte - b'a' + 10),
-        _ => None,
-    }
-}
-
 /// Whether a list goes on with this word.
 fn begins_item(word: &str) -> bool {
-    word.bytes().next().and_then(digit).is_some()
+    word.bytes().next().and_then(hex::digit).is_some()
 }

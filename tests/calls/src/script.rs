@@ -1,14 +1,13 @@
 //! The script of a call: code with its marks, and the place it is entered at.
 
 use crate::words::{Read, Words};
-use second::audit as library;
-use second::isa::{self, CodeAddress};
 
 /// Most bytes or marks of a script that need not fit a family.
 const MOST_INPUT: usize = 600;
 const EXIT: u8 = 0x7f;
 
 /// Which code and marks a call's name stands for.
+#[derive(Clone, Copy)]
 pub enum Ram {
     /// All of it uploaded.
     Whole,
@@ -20,16 +19,30 @@ pub enum Ram {
     Input,
 }
 
+impl Ram {
+    /// The name of the call itself, and the RAM that the rest of its name stands for.
+    pub fn of(name: &str) -> Option<(&str, Ram)> {
+        match name.split_once('_') {
+            None => Some((name, Ram::Whole)),
+            Some((call, "part")) => Some((call, Ram::Part)),
+            Some((call, "hole")) => Some((call, Ram::Hole)),
+            Some((call, "input")) => Some((call, Ram::Input)),
+            Some(_) => None,
+        }
+    }
+}
+
 /// A script that owns its code and marks.
 pub struct Script {
-    family: u8,
-    code: Vec<u8>,
-    marks: Vec<u8>,
-    entry: CodeAddress,
+    pub family: u8,
+    pub code: Vec<u8>,
+    pub marks: Vec<u8>,
+    pub entry: u32,
 }
 
 impl Script {
-    pub fn read(ram: Ram, words: &mut Words) -> Read<Script> {
+    /// The script of a call; how large a family's code RAM is is for the answering program to say.
+    pub fn read(ram: Ram, words: &mut Words, code_size: fn(u8) -> usize) -> Read<Script> {
         let family = match ram {
             Ram::Input => words.number()?,
             _ => words.known_family()?,
@@ -39,33 +52,22 @@ impl Script {
             family,
             code: Vec::new(),
             marks: Vec::new(),
-            entry: CodeAddress(words.number()?),
+            entry: words.number()?,
         };
         match ram {
-            Ram::Whole => script.place(words)?,
-            Ram::Part => script.place_part(words)?,
-            Ram::Hole => script.place_around(words)?,
+            Ram::Whole => script.place(words, code_size(family))?,
+            Ram::Part => script.place_part(words, code_size(family))?,
+            Ram::Hole => script.place_around(words, code_size(family))?,
             Ram::Input => script.fill(words)?,
         }
         Ok(script)
     }
 
-    /// The script as the library takes it.
-    pub fn slices(&self) -> library::Script<'_> {
-        library::Script {
-            family: self.family,
-            code: &self.code,
-            marks: &self.marks,
-            entry: self.entry,
-        }
-    }
-
     /// The bytes from a place on, 00 all around them, and only they uploaded.
-    fn place_part(&mut self, words: &mut Words) -> Read<()> {
+    fn place_part(&mut self, words: &mut Words, size: usize) -> Read<()> {
         words.fixed("at")?;
         let at = words.number()?;
         let bytes = words.bytes()?;
-        let size = isa::code_size(self.family).expect("a known family");
         self.code = vec![0; size];
         self.marks = vec![0; size];
         let places = self.code.iter_mut().zip(&mut self.marks).skip(at);
@@ -77,15 +79,15 @@ impl Script {
     }
 
     /// The same, and all of it uploaded.
-    fn place(&mut self, words: &mut Words) -> Read<()> {
-        self.place_part(words)?;
+    fn place(&mut self, words: &mut Words, size: usize) -> Read<()> {
+        self.place_part(words, size)?;
         self.marks.fill(1);
         Ok(())
     }
 
     /// The same, but for one place.
-    fn place_around(&mut self, words: &mut Words) -> Read<()> {
-        self.place(words)?;
+    fn place_around(&mut self, words: &mut Words, size: usize) -> Read<()> {
+        self.place(words, size)?;
         words.fixed("hole")?;
         let hole = words.at_most(self.marks.len() - 1)?;
         self.marks[hole] = 0;

@@ -56,6 +56,11 @@ impl Random {
         (self.word() % end as u64) as usize
     }
 
+    /// One of the numbers from the least to the most.
+    pub fn between(&mut self, least: usize, most: usize) -> usize {
+        least + self.below(most - least + 1)
+    }
+
     /// True so many times in a hundred.
     pub fn chance(&mut self, percent: usize) -> bool {
         self.below(100) < percent

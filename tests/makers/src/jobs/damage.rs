@@ -4,19 +4,21 @@
 #![allow(clippy::ptr_arg)]
 
 use super::draft::Draft;
-use super::records;
+use super::records::{self, Record, MOST_RANGES, MOST_WRITES};
 use crate::log;
 use crate::random::Random;
 use crate::ranges;
 use crate::registers::{self, CODE, CONTROL, TRIGGER};
 
-const MOST_RANGES: usize = 64;
-const MOST_WRITES: usize = 512;
 /// Most bytes of a job.
-const LONGEST: usize = 32_768;
+pub const LONGEST: usize = 32_768;
+/// Kinds, opcodes and bounds.
+const BOUNDS: [u8; 16] = [
+    0, 1, 2, 3, 4, 5, 0x1f, 0x20, 0x40, 0x42, 0x5f, 0x7f, 0x80, 0xb0, 0xe0, 0xff,
+];
 
-/// A way to damage something.
-type Damage<T> = fn(&mut Random, &mut T);
+/// A way to damage something; a list of records is not empty.
+pub type Damage<T> = fn(&mut Random, &mut T);
 
 /// Damages to what the job says.
 pub const DRAFTS: [Damage<Draft>; 11] = [
@@ -34,7 +36,7 @@ pub const DRAFTS: [Damage<Draft>; 11] = [
 ];
 
 /// Damages to the order and number of records.
-pub const RECORDS: [Damage<Vec<Vec<u8>>>; 7] = [
+pub const RECORDS: [Damage<Vec<Record>>; 10] = [
     second_family,
     moved,
     dropped,
@@ -42,10 +44,13 @@ pub const RECORDS: [Damage<Vec<Vec<u8>>>; 7] = [
     shuffled,
     misplaced,
     cut_inside,
+    repeated,
+    exchanged,
+    replaced,
 ];
 
 /// Damages to the bytes.
-pub const BYTES: [Damage<Vec<u8>>; 5] = [cut, flipped, too_long, inserted, removed];
+pub const BYTES: [Damage<Vec<u8>>; 6] = [cut, flipped, too_long, inserted, removed, overwritten];
 
 fn bad_family(random: &mut Random, draft: &mut Draft) {
     draft.family = random.pick(&[0, 5, 6, 16, 128, 254, 255]);
@@ -149,7 +154,7 @@ fn after_end(random: &mut Random, draft: &mut Draft) {
 }
 
 /// A family record right after the first, or later.
-fn second_family(random: &mut Random, list: &mut Vec<Vec<u8>>) {
+fn second_family(random: &mut Random, list: &mut Vec<Record>) {
     let at = match random.below(3) {
         0 => random.below(list.len()),
         _ => 1,
@@ -157,12 +162,12 @@ fn second_family(random: &mut Random, list: &mut Vec<Vec<u8>>) {
     list.insert(at, records::family(random.below(7) as u8));
 }
 
-fn moved(random: &mut Random, list: &mut Vec<Vec<u8>>) {
+fn moved(random: &mut Random, list: &mut Vec<Record>) {
     let record = list.remove(random.below(list.len()));
     list.insert(random.below(list.len() + 1), record);
 }
 
-fn dropped(random: &mut Random, list: &mut Vec<Vec<u8>>) {
+fn dropped(random: &mut Random, list: &mut Vec<Record>) {
     let at = match random.below(4) {
         0 => 0,
         1 => list.len() - 1,
@@ -171,18 +176,18 @@ fn dropped(random: &mut Random, list: &mut Vec<Vec<u8>>) {
     list.remove(at);
 }
 
-fn unknown_kind(random: &mut Random, list: &mut Vec<Vec<u8>>) {
+fn unknown_kind(random: &mut Random, list: &mut Vec<Record>) {
     let kind = random.pick(&[5, 6, 7, 0x10, 0x7f, 0x80, 0xff]);
     list.insert(random.below(list.len() + 1), vec![kind]);
 }
 
-fn shuffled(random: &mut Random, list: &mut Vec<Vec<u8>>) {
+fn shuffled(random: &mut Random, list: &mut Vec<Record>) {
     let from = random.below(2).min(list.len());
     random.shuffle(&mut list[from..]);
 }
 
 /// A record that is at fault by itself, wherever it stands.
-fn bad_record(random: &mut Random) -> Vec<u8> {
+fn bad_record(random: &mut Random) -> Record {
     match random.below(4) {
         0 => records::family(5),
         1 => records::range((5, 4)),
@@ -191,17 +196,49 @@ fn bad_record(random: &mut Random) -> Vec<u8> {
     }
 }
 
-fn misplaced(random: &mut Random, list: &mut Vec<Vec<u8>>) {
+fn misplaced(random: &mut Random, list: &mut Vec<Record>) {
     let at = random.below(list.len() + 1);
     list.insert(at, bad_record(random));
 }
 
 /// The input ends inside a record, which may also be out of order or bad.
-fn cut_inside(random: &mut Random, list: &mut Vec<Vec<u8>>) {
+fn cut_inside(random: &mut Random, list: &mut Vec<Record>) {
     list.truncate(random.below(list.len() + 1));
     let mut last = bad_record(random);
     last.truncate(1 + random.below(last.len()));
     list.push(last);
+}
+
+/// A record once more, a few times more, or to about the most that there may be of its kind.
+fn repeated(random: &mut Random, list: &mut Vec<Record>) {
+    let at = random.below(list.len());
+    let record = list[at].clone();
+    let most = records::most_of(record[0]);
+    let same = list.iter().filter(|other| other[0] == record[0]).count();
+    let wanted = match random.below(3) {
+        0 => same + 1,
+        1 => same + 1 + random.below(8),
+        _ => random.between(most - 1, most + 1),
+    };
+    let more = wanted.saturating_sub(same);
+    list.splice(at..at, std::iter::repeat_n(record, more));
+}
+
+fn exchanged(random: &mut Random, list: &mut Vec<Record>) {
+    let (one, other) = (random.below(list.len()), random.below(list.len()));
+    list.swap(one, other);
+}
+
+/// Any record in the place of another.
+fn replaced(random: &mut Random, list: &mut Vec<Record>) {
+    let at = random.below(list.len());
+    list[at] = match random.below(5) {
+        0 => records::family(random.below(6) as u8),
+        1 => records::range((random.edgy(), random.edgy())),
+        2 => records::write((registers::random(random), random.edgy())),
+        3 => records::row(log::row(random, &[])),
+        _ => vec![random.pick(&BOUNDS)],
+    };
 }
 
 fn cut(random: &mut Random, bytes: &mut Vec<u8>) {
@@ -235,6 +272,14 @@ fn inserted(random: &mut Random, bytes: &mut Vec<u8>) {
 fn removed(random: &mut Random, bytes: &mut Vec<u8>) {
     if !bytes.is_empty() {
         bytes.remove(random.below(bytes.len()));
+    }
+}
+
+/// A byte becomes a kind, an opcode or a bound.
+fn overwritten(random: &mut Random, bytes: &mut Vec<u8>) {
+    let at = random.below(bytes.len());
+    if let Some(byte) = bytes.get_mut(at) {
+        *byte = random.pick(&BOUNDS);
     }
 }
 

@@ -1,12 +1,14 @@
 //! A sound job before it is bytes.
 
-use super::records;
+use super::records::{self, Record, MOST_WRITES};
 use crate::compose;
 use crate::log::{Log, Row};
 use crate::random::Random;
 use crate::ranges::{self, Range};
-use crate::registers::{CONTROL, ENTRY_POINT, ENTRY_POINT_HIGH, FLAGS_0, FLAGS_1, TRIGGER};
-use crate::upload::Upload;
+use crate::registers::{
+    CONTROL, ENTRY_POINT, ENTRY_POINT_HIGH, FLAGS_0, FLAGS_1, NEW_CODE, TRIGGER,
+};
+use crate::upload::{word, Upload};
 
 /// What a job says, record by record.
 pub struct Draft {
@@ -38,8 +40,26 @@ impl Draft {
         }
     }
 
+    /// A job of family 4 with as many host writes as there may be: the upload of this code again and again.
+    pub fn full(code: &[u8], ranges: Vec<Range>, rows: Vec<Row>) -> Draft {
+        let mut writes = vec![(CONTROL, 8)];
+        let places = (0..code.len()).step_by(4).cycle();
+        // Room is left for entry point and start.
+        for place in places.take(MOST_WRITES - 3) {
+            writes.push((NEW_CODE + place as u32, word(&code[place..])));
+        }
+        writes.extend([(ENTRY_POINT, 0), (TRIGGER, 3)]);
+        Draft {
+            family: 4,
+            ranges,
+            writes,
+            rows,
+            after: vec![],
+        }
+    }
+
     /// The records with the end.
-    pub fn records(&self) -> Vec<Vec<u8>> {
+    pub fn records(&self) -> Vec<Record> {
         let mut list = vec![records::family(self.family)];
         list.extend(self.ranges.iter().copied().map(records::range));
         list.extend(self.writes.iter().copied().map(records::write));

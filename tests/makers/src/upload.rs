@@ -27,6 +27,11 @@ pub fn image(script: &Script, size: usize, filler: u8) -> Vec<u8> {
     code
 }
 
+/// The word that the first four bytes are.
+pub fn word(bytes: &[u8]) -> u32 {
+    u32::from_le_bytes([bytes[0], bytes[1], bytes[2], bytes[3]])
+}
+
 impl Upload {
     pub fn random(random: &mut Random, script: &Script) -> Upload {
         let length = script.bytes().len();
@@ -54,8 +59,7 @@ impl Upload {
             let needed = self.whole || (place < end && script.at < place + 4);
             let hole = self.holes.iter().any(|&hole| hole / 4 == number);
             if needed && !hole {
-                let word = u32::from_le_bytes([bytes[0], bytes[1], bytes[2], bytes[3]]);
-                writes.push((self.window(family, place) + place as u32, word));
+                writes.push((self.window(family, place) + place as u32, word(bytes)));
             }
         }
         writes

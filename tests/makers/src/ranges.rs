@@ -1,5 +1,6 @@
 //! Random allowed ranges, and addresses at their edges.
 
+use crate::jobs::records::MOST_RANGES;
 use crate::random::Random;
 use crate::registers;
 
@@ -10,8 +11,8 @@ pub type Range = (u32, u32);
 pub fn random(random: &mut Random) -> Vec<Range> {
     let count = match random.below(12) {
         0 => 0,
-        1 => 64,
-        2 => 1 + random.below(64),
+        1 => MOST_RANGES,
+        2 => 1 + random.below(MOST_RANGES),
         _ => 1 + random.below(4),
     };
     // Of many ranges each is small, or the last would never be needed.
@@ -70,6 +71,12 @@ pub fn outside(random: &mut Random, ranges: &[Range]) -> u32 {
     } else {
         last.wrapping_add(1)
     }
+}
+
+/// As many ranges as are allowed, of 4,096 addresses each, one behind the other.
+pub fn most(base: u32) -> Vec<Range> {
+    let firsts = (0..MOST_RANGES as u32).map(|i| base + 0x1000 * i);
+    firsts.map(|first| (first, first + 0xfff)).collect()
 }
 
 /// The ranges as the auditor takes them.

@@ -1,31 +1,21 @@
 //! Which call a line is, and what calls leave for later ones.
 
-use crate::log::Rows;
 use crate::machine::Bench;
-use crate::script::Ram;
-use crate::words::{Answer, Read, Words};
 use crate::{audit, isa, probe, replay, witness};
+use calls::lines::{unknown, Calls};
+use calls::log::Rows;
+use calls::script::Ram;
+use calls::words::{Answer, Read, Words};
+use second::log::Columns;
 
 /// What calls leave for later ones.
 #[derive(Default)]
-pub struct Calls {
+pub struct Answers {
     log: Rows,
     bench: Option<Bench>,
 }
 
-impl Calls {
-    /// The answer to a line; comments have none.
-    pub fn answer(&mut self, line: &str) -> Answer {
-        if line.is_empty() || line.starts_with('#') {
-            return Ok(None);
-        }
-        let mut words = Words::of(line);
-        let name = words.text("a call")?;
-        let answer = self.call(name, &mut words)?;
-        words.end()?;
-        Ok(answer)
-    }
-
+impl Calls for Answers {
     /// The answer to the call of that name.
     fn call(&mut self, name: &str, words: &mut Words) -> Answer {
         match name {
@@ -44,24 +34,22 @@ impl Calls {
             "high" => self.bench()?.high(words),
             "slots" => self.bench()?.slots(),
             "place" => self.bench()?.place(words),
-            "step" => started(&mut self.bench)?.step(words, self.log.columns()),
+            "step" => started(&mut self.bench)?.step(words, columns(&self.log)),
             "listed" => audit::listed(words),
             _ => self.call_on_script(name, words),
         }
     }
+}
 
+impl Answers {
     /// The answer to a call on a script; its name has the RAM's behind that of the call itself.
     fn call_on_script(&self, name: &str, words: &mut Words) -> Answer {
-        let (call, ram) = match name.split_once('_') {
-            None => (name, Ram::Whole),
-            Some((call, "part")) => (call, Ram::Part),
-            Some((call, "hole")) => (call, Ram::Hole),
-            Some((call, "input")) => (call, Ram::Input),
-            Some(_) => return unknown(words),
+        let Some((call, ram)) = Ram::of(name) else {
+            return unknown(words);
         };
         match call {
             "audit" => audit::audit(ram, words),
-            "replay" => replay::replay(ram, words, self.log.columns()),
+            "replay" => replay::replay(ram, words, columns(&self.log)),
             "witness" => witness::witness(ram, words),
             _ => unknown(words),
         }
@@ -80,10 +68,13 @@ impl Calls {
     }
 }
 
-/// The answer to a line that begins with no call.
-fn unknown(words: &mut Words) -> Answer {
-    words.pass_over();
-    Ok(Some("unknown call".to_string()))
+/// The log as the library takes it.
+fn columns(log: &Rows) -> Columns<'_> {
+    Columns {
+        clocks: &log.clocks,
+        known: &log.known,
+        values: &log.values,
+    }
 }
 
 /// The bench, which has no state before the first `fresh`.

@@ -1,10 +1,9 @@
 //! Random event logs, good ones and bad.
 
 use crate::random::Random;
-use crate::show;
 
 /// Most clocks a row has.
-const MOST_CLOCKS: u64 = 1 << 48;
+pub const MOST_CLOCKS: u64 = 1 << 48;
 /// Most rows a log has.
 pub const MOST_ROWS: usize = 1024;
 /// Clocks that no row has.
@@ -175,16 +174,6 @@ impl Columns {
         }
     }
 
-    /// The log as docs/VECTORS.md writes it.
-    pub fn told(&self) -> String {
-        format!(
-            "log {} known {} values {}",
-            show::numbers(&self.clocks),
-            show::words(&self.known),
-            show::words(&self.values)
-        )
-    }
-
     /// The first so many entries of each, or all.
     pub fn first(&self, count: usize) -> Columns {
         let mut first = self.clone();
@@ -192,22 +181,5 @@ impl Columns {
         first.known.truncate(count);
         first.values.truncate(count);
         first
-    }
-
-    /// The columns as they are lent for a log.
-    pub fn lend(&mut self) -> hwsq::Columns<'_> {
-        hwsq::Columns {
-            clocks: &mut self.clocks,
-            known: &mut self.known,
-            values: &mut self.values,
-        }
-    }
-
-    pub fn lent(&self) -> hwsq::Log<'_> {
-        hwsq::Log {
-            clocks: &self.clocks,
-            known: &self.known,
-            values: &self.values,
-        }
     }
 }

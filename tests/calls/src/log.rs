@@ -1,7 +1,6 @@
 //! Calls that set the log.
 
 use crate::words::{Answer, Words};
-use second::log::Columns;
 
 /// Most rows that `rows` makes.
 const MOST_ROWS: usize = 1100;
@@ -9,21 +8,12 @@ const MOST_ROWS: usize = 1100;
 /// The columns of a log, owned.
 #[derive(Default)]
 pub struct Rows {
-    clocks: Vec<u64>,
-    known: Vec<u32>,
-    values: Vec<u32>,
+    pub clocks: Vec<u64>,
+    pub known: Vec<u32>,
+    pub values: Vec<u32>,
 }
 
 impl Rows {
-    /// The columns as the library takes them.
-    pub fn columns(&self) -> Columns<'_> {
-        Columns {
-            clocks: &self.clocks,
-            known: &self.known,
-            values: &self.values,
-        }
-    }
-
     /// Each column as the call has it.
     pub fn set(&mut self, words: &mut Words) -> Answer {
         self.clocks = words.list(Words::number)?;
