@@ -41,6 +41,20 @@ enum hwsq_refusal {
     HWSQ_SLOT_EXECUTES = 28    /* host: a slot executes, and this is no abort */
 };
 
+/* ---- families ---- */
+
+struct hwsq_facts {
+    uint8_t refusal;
+    bool hangs;   /* an unknown opcode hangs the slot; elsewhere it is a nop of one byte */
+    bool pauses;  /* flag 16 pauses memory */
+    size_t size;  /* bytes of code RAM */
+    size_t slots; /* 2 for A and B, 1 for A alone */
+    size_t entry; /* the highest entry point */
+};
+
+/* What differs from one family to the next. Refuses with 9. */
+struct hwsq_facts hwsq_family(uint8_t family);
+
 /* ---- reader and writer ---- */
 
 /* Kinds of instruction, with their first and second operand. */
@@ -264,6 +278,9 @@ struct hwsq_stepped {
 struct hwsq_stepped hwsq_step(struct hwsq_state state, uint8_t slot, const uint64_t *clocks, size_t clocks_len,
                               const uint32_t *known, size_t known_len, const uint32_t *values, size_t values_len,
                               size_t row, uint64_t used);
+
+/* Whether memory is paused: flag 16 has its enable and its value set, on a family where it pauses memory. */
+bool hwsq_paused(struct hwsq_state state);
 
 /* ---- report ---- */
 

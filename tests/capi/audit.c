@@ -32,6 +32,12 @@ static struct script upload(const uint8_t *bytes, size_t n) {
     return s;
 }
 
+static void facts(uint8_t family) {
+    struct hwsq_facts f = hwsq_family(family);
+    printf("family %u refusal %u size %zu slots %zu hangs %d pauses %d entry %zu\n", family, f.refusal, f.size, f.slots,
+           f.hangs, f.pauses, f.entry);
+}
+
 static uint8_t audit(const char *name, const struct script *s) {
     struct hwsq_verdict v = hwsq_audit(3, s->code, RAM, s->marks, RAM, 0, ranges, 2);
     printf("%s verdict %u place %zu", name, v.verdict, v.place);
@@ -95,6 +101,7 @@ static void see(struct hwsq_state state, const struct hwsq_shown *w, const struc
     if (at.effect == HWSQ_WROTE) {
         printf("wrote %08" PRIx32 " %08" PRIx32 "\n", at.address, at.word);
     }
+    printf("memory %s\n", hwsq_paused(at.state) ? "paused" : "free");
 }
 
 /* An entry too few in one column. */
@@ -113,6 +120,8 @@ int main(void) {
     static const uint8_t good[] = {0xb0, 0x5f, 1, 0, 0xe2, 0x78, 0x56, 0x34, 0x12, 0xe0, 0x00, 0x16, 0x10, 0x00, 0x01, 0xd0, 0x7f};
     /* the same without letting go */
     static const uint8_t paused[] = {0xb0, 0x5f, 1, 0, 0xe2, 0x78, 0x56, 0x34, 0x12, 0xe0, 0x00, 0x16, 0x10, 0x00, 0x01, 0x7f};
+    facts(3);
+    facts(0);
     struct script passing = upload(good, sizeof good);
     struct script failing = upload(paused, sizeof paused);
     if (audit("passing", &passing) == HWSQ_DONE) {

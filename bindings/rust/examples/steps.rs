@@ -89,8 +89,13 @@ fn stepped(start: State) -> (State, usize, u64, Vec<u32>, u64, u64) {
         if step.effect == WROTE {
             writes.extend([step.address, step.word]);
         }
+        let paused = if hwsq::paused(&state) {
+            "paused"
+        } else {
+            "free"
+        };
         println!(
-            "effect {} why {} mode {} ip {} addr {:08x} data {:08x} values {:08x} enables {:08x} row {row} used {used}",
+            "effect {} why {} mode {} ip {} addr {:08x} data {:08x} values {:08x} enables {:08x} row {row} used {used} {paused}",
             step.effect, step.why, state.a.mode, state.a.ip, state.a.addr, state.a.data, state.values, state.enables
         );
     }
@@ -188,6 +193,7 @@ fn refusals(state: State) {
         step.refusal, step.effect, step.row, step.used
     );
     println!("fresh: {}", hwsq::fresh(5).refusal);
+    println!("family: {:?}", hwsq::family(5));
 }
 
 fn samples() {
@@ -213,6 +219,7 @@ fn samples() {
 }
 
 fn main() {
+    println!("{:?}", hwsq::family(FAMILY));
     let first = started(&spelled());
     agrees(first);
     codec_refusals();

@@ -11,6 +11,17 @@ pub const REPORT_SIZE: usize = 65536;
 
 #[repr(C)]
 #[derive(Clone, Copy, Debug, PartialEq, Eq)]
+pub struct Facts {
+    pub refusal: u8,
+    pub hangs: bool,
+    pub pauses: bool,
+    pub size: usize,
+    pub slots: usize,
+    pub entry: usize,
+}
+
+#[repr(C)]
+#[derive(Clone, Copy, Debug, PartialEq, Eq)]
 pub struct Decoded {
     pub refusal: u8,
     pub kind: u8,
@@ -138,6 +149,7 @@ mod raw {
     // A Rattle slice passes as a pointer and a length.
     #[link(name = "hwsq", kind = "static")]
     extern "C" {
+        pub fn hwsq_family(family: u8) -> Facts;
         pub fn hwsq_decode(family: u8, bytes: *const u8, bytes_len: usize) -> Decoded;
         pub fn hwsq_encode(
             family: u8,
@@ -217,6 +229,7 @@ mod raw {
             row: usize,
             used: u64,
         ) -> Stepped;
+        pub fn hwsq_paused(state: State) -> bool;
         pub fn hwsq_report(job: *const u8, job_len: usize, out: *mut u8) -> usize;
     }
 }
@@ -253,6 +266,10 @@ pub struct Columns<'a> {
     pub clocks: &'a mut [u64],
     pub known: &'a mut [u32],
     pub values: &'a mut [u32],
+}
+
+pub fn family(family: u8) -> Facts {
+    unsafe { raw::hwsq_family(family) }
 }
 
 pub fn decode(family: u8, bytes: &[u8]) -> Decoded {
@@ -358,6 +375,11 @@ pub fn step(state: &State, slot: u8, log: Log, row: usize, used: u64) -> Stepped
             used,
         )
     }
+}
+
+/// Whether memory is paused.
+pub fn paused(state: &State) -> bool {
+    unsafe { raw::hwsq_paused(*state) }
 }
 
 /// Writes the report on a job at the start of out and answers how many bytes it takes.

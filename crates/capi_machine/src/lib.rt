@@ -2,6 +2,7 @@
 // as a struct of numbers.
 mod accesses;
 mod images;
+mod pausing;
 mod stepping;
 
 pub use accesses::AccessReply;
@@ -11,5 +12,6 @@ pub use accesses::hwsq_read;
 pub use accesses::hwsq_write;
 pub use images::SlotImage;
 pub use images::StateImage;
+pub use pausing::hwsq_paused;
 pub use stepping::StepReply;
 pub use stepping::hwsq_step;

@@ -1,8 +1,10 @@
 //! The second program's answers in the shape of the proved ones, so that they compare member by member.
 
-use hwsq::{Access, Decoded, Encoded, Reading, Replayed, Shown, Slot, State, Stepped, Verdict};
+use hwsq::{
+    Access, Decoded, Encoded, Facts, Reading, Replayed, Shown, Slot, State, Stepped, Verdict,
+};
 use second::audit::{self, Ending, Fault, Pass};
-use second::isa::Instruction;
+use second::isa::{self, Instruction};
 use second::log::Place;
 use second::machine::{self, Activity, Did, SlotState, Step, Stop};
 use second::witness::Witness;
@@ -26,6 +28,28 @@ pub fn instruction(instruction: Instruction) -> (u8, u32, u8) {
 
 fn number<T>(answer: &Result<T, Refusal>) -> u8 {
     answer.as_ref().err().map_or(0, |refusal| refusal.number())
+}
+
+/// The facts of a family; of a number that names none all are 0.
+pub fn facts(family: u8) -> Facts {
+    let known = || {
+        Ok(Facts {
+            refusal: 0,
+            hangs: isa::unknown_hangs(family)?,
+            pauses: isa::pauses_memory(family)?,
+            size: isa::code_size(family)?,
+            slots: isa::slot_count(family)?,
+            entry: isa::highest_entry(family)? as usize,
+        })
+    };
+    known().unwrap_or_else(|refusal: Refusal| Facts {
+        refusal: refusal.number(),
+        hangs: false,
+        pauses: false,
+        size: 0,
+        slots: 0,
+        entry: 0,
+    })
 }
 
 pub fn decoded(answer: Result<(Instruction, usize), Refusal>) -> Decoded {

@@ -33,6 +33,10 @@ impl Bench {
         if proved != access {
             return Err(told_accesses(&proved, &access));
         }
+        let (ours, theirs) = (hwsq::family(family), mirror::facts(family));
+        if ours != theirs {
+            return Err(format!("  proved {ours:?}\n  second {theirs:?}"));
+        }
         Ok(Bench {
             proved: proved.state,
             second,
@@ -110,7 +114,10 @@ impl Bench {
             row: proved.row,
             used: proved.used,
         };
-        (proved != second).then(|| told_steps(&proved, &second))
+        let paused = hwsq::paused(&self.proved);
+        // The second program refuses the question of a number that names no family.
+        let same = proved == second && paused == (self.second.memory_paused() == Ok(true));
+        (!same).then(|| told_steps(&proved, &second) + &format!("\n  proved paused {paused}"))
     }
 
     fn force(&mut self, slot: usize, mode: u8, ip: u32) {
