@@ -20,12 +20,10 @@ pub const ENABLED: Registers = Registers {
 
 /// Bytes of a hex text, blanks ignored.
 pub fn hex(text: &str) -> Vec<u8> {
-    let digits: Vec<u8> = text.bytes().filter(|b| !b.is_ascii_whitespace()).collect();
-    let digit = |d: u8| (d as char).to_digit(16).unwrap() as u8;
-    digits
-        .chunks_exact(2)
-        .map(|d| digit(d[0]) << 4 | digit(d[1]))
-        .collect()
+    match text {
+        "" => vec![],
+        _ => calls::hex::job(text).expect("hex"),
+    }
 }
 
 /// A script with the rest of the code RAM 00 and all of it uploaded.
@@ -182,23 +180,24 @@ impl Rows {
     }
 }
 
-/// A small generator of pseudo-random numbers.
-pub struct Random(pub u64);
+/// Random numbers, and what tests make of them.
+pub struct Random(makers::random::Random);
 
 impl Random {
+    pub fn of(seed: u64) -> Random {
+        Random(makers::random::Random::of_case(seed, 0, 0))
+    }
+
     pub fn next(&mut self) -> u64 {
-        self.0 ^= self.0 << 13;
-        self.0 ^= self.0 >> 7;
-        self.0 ^= self.0 << 17;
-        self.0.wrapping_mul(0x2545_f491_4f6c_dd1d)
+        self.0.word()
     }
 
     pub fn below(&mut self, limit: u64) -> u64 {
-        (self.next() >> 11) % limit
+        self.next() % limit
     }
 
     pub fn word(&mut self) -> u32 {
-        (self.next() >> 32) as u32
+        self.0.half()
     }
 
     pub fn chance(&mut self, percent: u64) -> bool {

@@ -209,7 +209,7 @@ fn any_input_gives_whole_lines() {
             assert!(first == "family 3" || report.lines().count() <= 2 || at == 1);
         }
     }
-    let mut random = Random(14);
+    let mut random = Random::of(14);
     for _ in 0..5_000 {
         let length = random.below(60);
         let input: Vec<u8> = (0..length).map(|_| random.below(6) as u8).collect();

@@ -20,7 +20,7 @@ pub fn random_start(random: &mut Random) -> Registers {
 
 #[test]
 fn clock_law_of_replays() {
-    let mut random = Random(11);
+    let mut random = Random::of(11);
     let mut endings = [0; 5];
     for round in 0..20_000 {
         let script = random.script(1 + (round % 4) as u8);
@@ -69,7 +69,7 @@ pub fn run_steps(mut state: State, rows: &Rows, count: usize) -> (State, Place, 
 
 #[test]
 fn replay_is_one_step_more_than_the_code_has_bytes() {
-    let mut random = Random(12);
+    let mut random = Random::of(12);
     for round in 0..2_000 {
         let script = random.script(1 + (round % 4) as u8);
         let rows = random.rows();
@@ -92,7 +92,7 @@ fn replay_is_one_step_more_than_the_code_has_bytes() {
 
 #[test]
 fn verdicts_are_borne_out_by_runs() {
-    let mut random = Random(13);
+    let mut random = Random::of(13);
     let mut met = [0; 9];
     for round in 0..40_000 {
         let script = random.script(1 + (round % 4) as u8);

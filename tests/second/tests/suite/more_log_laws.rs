@@ -10,7 +10,7 @@ use second::more_log::{filled_in, keeps_writes, wait_ends, WaitEnd};
 
 #[test]
 fn ends_agree_with_replays() {
-    let mut random = Random(21);
+    let mut random = Random::of(21);
     let mut finished = 0;
     for round in 0..20_000 {
         let script = random.script(1 + (round % 4) as u8);
@@ -127,7 +127,7 @@ fn outcomes(before: &Shown, now: &Shown) -> [bool; 5] {
 
 #[test]
 fn more_log_never_makes_fewer_writes() {
-    let mut random = Random(22);
+    let mut random = Random::of(22);
     let mut met = [0; 5];
     for round in 0..20_000 {
         let family = 1 + (round % 4) as u8;
@@ -152,7 +152,7 @@ fn more_log_never_makes_fewer_writes() {
 
 #[test]
 fn the_same_after_any_number_of_steps() {
-    let mut random = Random(23);
+    let mut random = Random::of(23);
     let mut added = 0;
     for round in 0..4_000 {
         let script = passing(&mut random, 1 + (round % 4) as u8);

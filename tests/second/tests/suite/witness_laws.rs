@@ -43,7 +43,7 @@ fn shown(random: &mut Random, script: &Script, claim: Witness, log: &Rows) -> [O
 
 #[test]
 fn every_witness_is_borne_out_by_runs() {
-    let mut random = Random(31);
+    let mut random = Random::of(31);
     let mut met = [0; 9];
     for round in 0..40_000 {
         let script = random.script(1 + (round % 4) as u8);
@@ -60,7 +60,7 @@ fn every_witness_is_borne_out_by_runs() {
 
 #[test]
 fn one_clock_is_left_at_the_place() {
-    let mut random = Random(32);
+    let mut random = Random::of(32);
     for round in 0..20_000 {
         let script = random.script(1 + (round % 4) as u8);
         let (claim, rows) = script.witness(LOW_HALF);
@@ -78,7 +78,7 @@ fn one_clock_is_left_at_the_place() {
 
 #[test]
 fn a_pass_uses_its_log_but_for_the_last_clock() {
-    let mut random = Random(33);
+    let mut random = Random::of(33);
     let mut most = 0;
     for round in 0..10_000 {
         let script = passing(&mut random, 1 + (round % 4) as u8);
@@ -100,7 +100,7 @@ fn a_pass_uses_its_log_but_for_the_last_clock() {
 
 #[test]
 fn no_row_but_the_first_can_be_left_out() {
-    let mut random = Random(34);
+    let mut random = Random::of(34);
     let mut left_out = 0;
     for round in 0..5_000 {
         let script = passing(&mut random, 2 + (round % 3) as u8);
