@@ -12,14 +12,18 @@ use Rattle.capi_codec.specs.declared.encoding.Named.{Named}
 
 module _ {family kind first second : ℕ} {old new : List ℕ} where
   -- of what is named the promise holds, so it holds of what the numbers name
-  from : (named : Named) {reply : EncodeReply} → namedBy kind first second ≡ named → reply ≡ encodeReply family named (length old) → WritesNamed family named old new → HwsqEncode family kind first second old new reply
+  from : (named : Named) {reply : EncodeReply} → namedBy kind first second ≡ named
+      → reply ≡ encodeReply family named (length old) → WritesNamed family named old new → HwsqEncode family kind first second old new reply
   from named e answered writes = record {
     answered = rw e answered;
     writes = rw e writes;
   }
 
-  pub named-encode : {named : Named} {instruction : Instruction} {answer : Encoded} {reply : EncodeReply} → named ≡ namedBy kind first second → named ≡ Named.Instruction instruction → Writes family instruction old new answer → reply ≡ encodedReply answer → HwsqEncode family kind first second old new reply
-  named-encode {instruction = i} e k w told = from (Named.Instruction i) (sym e ∙ k) (told ∙ ap encodedReply (w .answered)) (subst (Writes family i old new) (w .answered) w)
+  pub named-encode : {named : Named} {instruction : Instruction} {answer : Encoded} {reply : EncodeReply}
+      → named ≡ namedBy kind first second → named ≡ Named.Instruction instruction → Writes family instruction old new answer → reply ≡ encodedReply answer
+      → HwsqEncode family kind first second old new reply
+  named-encode {instruction = i} e k w told =
+      from (Named.Instruction i) (sym e ∙ k) (told ∙ ap encodedReply (w .answered)) (subst (Writes family i old new) (w .answered) w)
 
 module _ {family kind first second : ℕ} {old : List ℕ} {named : Named} {number : ℕ} {reply : EncodeReply} (e : named ≡ namedBy kind first second) where
   pub wide-encode : named ≡ Named.Wide → number ≡ wideNumber family → reply ≡ unwrittenReply number → HwsqEncode family kind first second old old reply

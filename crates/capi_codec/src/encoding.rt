@@ -1,6 +1,7 @@
 // The instruction writer, its instruction and its answer as numbers.
 ghost use mathlib.Core.Path.{_≡_};
-ghost use Rattle.capi_codec.specs.Encoding.{cappedByte, namedHalf, namedEwait, namedBy, unnamedNumber, wideNumber, unwrittenReply, encodedReply, HwsqEncode};
+ghost use Rattle.capi_codec.specs.Encoding.{cappedByte, namedHalf, namedEwait, namedBy, unnamedNumber, wideNumber};
+ghost use Rattle.capi_codec.specs.Encoding.{unwrittenReply, encodedReply, HwsqEncode};
 use isa::Encoded;
 use isa::Instruction;
 use isa::MmioAddress;

@@ -40,17 +40,27 @@ unfolding stepReply
 step-back answer told = ap (λ (r : StepReply). stateFrom (r .state)) told ∙ image-back (answer .state)
 
 pub fresh-passed : {family : ℕ} {answer : Access} {reply : AccessReply} → Begins family answer → reply ≡ accessReply answer → HwsqFresh family reply
-fresh-passed {family} {answer} p told = record { answered = told ∙ ap accessReply (p .answered); begins = subst (Begins family) (p .answered) p; handed-on = state-back answer told ∙ ap (λ (a : Access). a .state) (p .answered) }
+fresh-passed {family} {answer} p told = record {
+  answered = told ∙ ap accessReply (p .answered);
+  begins = subst (Begins family) (p .answered) p;
+  handed-on = state-back answer told ∙ ap (λ (a : Access). a .state) (p .answered);
+}
 
 -- the call is of the state that the image stands for
 module _ {image : StateImage} {s : State} (e : s ≡ stateFrom image) where
-  pub write-passed : {address word : ℕ} {answer : Access} {reply : AccessReply} → HostWrites s (record { 0 = address }) word answer → reply ≡ accessReply answer → HwsqWrite image address word reply
+  pub write-passed : {address word : ℕ} {answer : Access} {reply : AccessReply}
+      → HostWrites s (record { 0 = address }) word answer → reply ≡ accessReply answer → HwsqWrite image address word reply
   write-passed {address} {word} {answer} p told =
       let at : MmioAddress = record { 0 = address } in
       let q : HostWrites (stateFrom image) at word answer = rw e at p in
-      record { answered = told ∙ ap accessReply (q .answered); writes = subst (HostWrites (stateFrom image) at word) (q .answered) q; handed-on = state-back answer told ∙ ap (λ (a : Access). a .state) (q .answered) }
+      record {
+        answered = told ∙ ap accessReply (q .answered);
+        writes = subst (HostWrites (stateFrom image) at word) (q .answered) q;
+        handed-on = state-back answer told ∙ ap (λ (a : Access). a .state) (q .answered);
+      }
 
-  pub read-passed : {address : ℕ} {answer : Reading} {reply : ReadReply} → HostReads s (record { 0 = address }) answer → reply ≡ readReply answer → HwsqRead image address reply
+  pub read-passed : {address : ℕ} {answer : Reading} {reply : ReadReply}
+      → HostReads s (record { 0 = address }) answer → reply ≡ readReply answer → HwsqRead image address reply
   read-passed {address} {answer} p told =
       let at : MmioAddress = record { 0 = address } in
       let q : HostReads (stateFrom image) at answer = rw e at p in

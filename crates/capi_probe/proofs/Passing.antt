@@ -16,14 +16,19 @@ module _ {gate low high gain offset raw : ℕ} where
   unfolding sampleReply
   sample-refused above told = let t = lt-ltb 2 gate above in record { answered = told ∙ rw t; samples = λ h. never (sym t ∙ h) }
 
-  pub sample-passed : {g : Gate} {k : Calibration} {answer : Sampled} {volts : ℕ} {reply : SampleReply} → gate ≤ 2 → g ≡ gateOf gate low high → k ≡ calibrationOf gain offset
+  pub sample-passed : {g : Gate} {k : Calibration} {answer : Sampled} {volts : ℕ} {reply : SampleReply}
+      → gate ≤ 2 → g ≡ gateOf gate low high → k ≡ calibrationOf gain offset
       → Samples g k raw answer → volts ≡ patternOf (rawVolts k raw) → reply ≡ sampledReply answer volts → HwsqSample gate low high gain offset raw reply
   unfolding sampleReply
   sample-passed {g} {k} {answer} {volts} below same-gate same-calibration p v told =
-      let q : Samples (gateOf gate low high) (calibrationOf gain offset) raw answer = subst (λ (x : Gate). Samples x (calibrationOf gain offset) raw answer) same-gate (subst (λ (x : Calibration). Samples g x raw answer) same-calibration p) in
+      let q : Samples (gateOf gate low high) (calibrationOf gain offset) raw answer =
+      subst (λ (x : Gate). Samples x (calibrationOf gain offset) raw answer) same-gate
+      (subst (λ (x : Calibration). Samples g x raw answer) same-calibration p) in
       let w : volts ≡ patternOf (rawVolts (calibrationOf gain offset) raw) = v ∙ ap (λ (x : Calibration). patternOf (rawVolts x raw)) same-calibration in
       let t = le-ltb 2 gate below in
       record {
-        answered = told ∙ ap (λ (a : Sampled). sampledReply a volts) (q .answer) ∙ rw t (ap (sampledReply (sampleOf (gateOf gate low high) (calibrationOf gain offset) raw)) w);
+        answered =
+            told ∙ ap (λ (a : Sampled). sampledReply a volts) (q .answer)
+            ∙ rw t (ap (sampledReply (sampleOf (gateOf gate low high) (calibrationOf gain offset) raw)) w);
         samples = λ h. subst (Samples (gateOf gate low high) (calibrationOf gain offset) raw) (q .answer) q;
       }

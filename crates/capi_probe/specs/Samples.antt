@@ -44,4 +44,5 @@ sampleReply gate low high gain offset raw =
 -- the reply tells the sample, of which all holds that a sample promises
 pub record HwsqSample (gate low high gain offset raw : ℕ) (reply : SampleReply) : Type 0 where
   pub answered : reply ≡ sampleReply gate low high gain offset raw
-  pub samples : ltb 2 gate ≡ false → Samples (gateOf gate low high) (calibrationOf gain offset) raw (sampleOf (gateOf gate low high) (calibrationOf gain offset) raw)
+  pub samples : ltb 2 gate ≡ false
+      → Samples (gateOf gate low high) (calibrationOf gain offset) raw (sampleOf (gateOf gate low high) (calibrationOf gain offset) raw)

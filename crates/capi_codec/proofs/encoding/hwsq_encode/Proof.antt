@@ -10,10 +10,14 @@ returns c =
     named-encode (named .before .before .named-by .ensures) (named .named .given .1) (c .before .before .before .encode .ensures) (c .encoded-reply .ensures)
 
 returns-2 : tie.Need-returns-2
-returns-2 c = wide-encode (c .before .before .before .before .named-by .ensures) (c .before .before .enum-told .given .1) (c .before .wide-number .ensures) (c .unwritten .ensures)
+returns-2 c =
+    let told = c .before .before in
+    wide-encode (told .before .before .named-by .ensures) (told .enum-told .given .1) (c .before .wide-number .ensures) (c .unwritten .ensures)
 
 returns-3 : tie.Need-returns-3
-returns-3 c = unknown-encode (c .before .before .before .before .named-by .ensures) (c .before .before .enum-told2 .given .1) (c .before .unnamed-number .ensures) (c .unwritten2 .ensures)
+returns-3 c =
+    let told = c .before .before in
+    unknown-encode (told .before .before .named-by .ensures) (told .enum-told2 .given .1) (c .before .unnamed-number .ensures) (c .unwritten2 .ensures)
 
 pub hwsq-encode-spec : {M : Type 1} → statement M
 hwsq-encode-spec =

@@ -49,7 +49,18 @@ returns-11 : tie.Need-returns-11
 unfolding namedBy
 returns-11 c =
     let n = c .match .rest in
-    simp (ne-eqb _ 1 (n .0 .0 .0 .0 .0 .0 .0 .0 .0 .1), ne-eqb _ 2 (n .0 .0 .0 .0 .0 .0 .0 .0 .1), ne-eqb _ 3 (n .0 .0 .0 .0 .0 .0 .0 .1), ne-eqb _ 4 (n .0 .0 .0 .0 .0 .0 .1), ne-eqb _ 5 (n .0 .0 .0 .0 .0 .1), ne-eqb _ 6 (n .0 .0 .0 .0 .1), ne-eqb _ 7 (n .0 .0 .0 .1), ne-eqb _ 8 (n .0 .0 .1), ne-eqb _ 9 (n .0 .1), ne-eqb _ 10 (n .1))
+    simp (
+      ne-eqb _ 1 (n .0 .0 .0 .0 .0 .0 .0 .0 .0 .1),
+      ne-eqb _ 2 (n .0 .0 .0 .0 .0 .0 .0 .0 .1),
+      ne-eqb _ 3 (n .0 .0 .0 .0 .0 .0 .0 .1),
+      ne-eqb _ 4 (n .0 .0 .0 .0 .0 .0 .1),
+      ne-eqb _ 5 (n .0 .0 .0 .0 .0 .1),
+      ne-eqb _ 6 (n .0 .0 .0 .0 .1),
+      ne-eqb _ 7 (n .0 .0 .0 .1),
+      ne-eqb _ 8 (n .0 .0 .1),
+      ne-eqb _ 9 (n .0 .1),
+      ne-eqb _ 10 (n .1),
+    )
 
 pub named-by-spec : {M : Type 1} → statement M
 named-by-spec =
