@@ -10,11 +10,12 @@ returns c = sample-refused (c .before .if1 .taken) (c .unsampled .ensures)
 
 returns-2 : tie.Need-returns-2
 returns-2 c =
-    let floats = c .before .before .before .before .before in
+    let volts = c .before .before .before .before in
+    let floats = volts .before in
     sample-passed (floats .before .before .before .if1 .left) (c .before .before .before .gate-of .ensures)
     (simp (floats .before .before .float-of .ensures .answer, floats .before .float-of2 .ensures .answer))
     (c .before .before .sample .ensures)
-    (c .before .pattern-of .ensures .answer ∙ simp (c .before .before .before .before .volts .ensures .answer, floats .float-of3 .ensures .answer))
+    (c .before .pattern-of .ensures .answer ∙ simp (volts .volts .ensures .answer, floats .float-of3 .ensures .answer))
     (c .sampled-reply .ensures)
 
 pub hwsq-sample-spec : {M : Type 1} → statement M
