@@ -12,8 +12,9 @@ returns c =
     let arguments = c .before .before .args in
     let a = hasSlot (arguments .family) SlotName.A && not (isIdle (arguments .a)) in
     let b = hasSlot (arguments .family) SlotName.B && not (isIdle (arguments .b)) in
+    let on : a ≡ true = sym (c .before .is-executing .ensures) ∙ c .if1 .taken in
     -- one slot that executes is enough, whichever it is
-    let some : true ≡ (b || a) = simp (sym (c .before .is-executing .ensures) ∙ c .if1 .taken, or-true) in
+    let some : true ≡ (b || a) = simp (on, or-true) in
     c .if1 .taken ∙ some ∙ or-comm b a
 
 returns-2 : tie.Need-returns-2
