@@ -1,14 +1,17 @@
--- Ranges, one pair at a time. Assumes nothing.
-use Prim.Native.Nat.{ℕ, _+_, _-_, _≤_, _<_}
-use mathlib.Core.Path.{_≡_, ap, _∙_}
-use mathlib.Core.Bool.{true, false}
+-- Ranges, one pair at a time, and marks. Assumes nothing.
+use Prim.Native.Nat.{ℕ, _+_, _-_, _%_, _≤_, _<_}
+use mathlib.Core.Path.{_≡_, refl, sym, ap, _∙_}
+use mathlib.Core.Bool.{Bool, true, false, cond, not, _&&_, and-true, and-false, and-assoc}
 use mathlib.Core.List.{List, [], _∷_}
+use native.Mathlib.Decide.{decLt}
 use native.Mathlib.Numerals.{add-one}
 use native.Mathlib.Omega.{arith}
-use borrow.Author.Tests.{le-leb, lt-leb}
+use borrow.Author.Tests.{le-leb, lt-leb, ltb-true, ltb-false}
+use lib.Dec.{leb, ltb}
 use lib.ListN.{length, getD, drop, drop-of-length-le}
 use lib.Seq.{drop-cons}
 use Rattle.families.specs.Family.{within}
+use Rattle.isa.proofs.Tests.{cond-elim}
 use Rattle.script.specs.Input.{listedIn, rangesPaired, marksPlain}
 
 next : (l : List ℕ) (i : ℕ) → i < length l → drop i l ≡ getD l i 0 ∷ drop (i + 1) l
@@ -33,28 +36,54 @@ module _ (ranges : List ℕ) (i : ℕ) where
     pub listed-here : i + 1 < length ranges → within (getD ranges i 0) address (getD ranges (i + 1) 0) ≡ true → true ≡ listedIn (drop i ranges) address
     listed-here h t = rw (pair h, t)
 
-    pub listed-next : i + 1 < length ranges → within (getD ranges i 0) address (getD ranges (i + 1) 0) ≡ false → listedIn (drop (i + 2) ranges) address ≡ listedIn (drop i ranges) address
+    pub listed-next : i + 1 < length ranges → within (getD ranges i 0) address (getD ranges (i + 1) 0) ≡ false
+        → listedIn (drop (i + 2) ranges) address ≡ listedIn (drop i ranges) address
     listed-next h t = rw (pair h, t)
 
-  pub paired-end : length ranges ≤ i → true ≡ rangesPaired (drop i ranges)
-  paired-end h = rw (drop-of-length-le ranges h)
+  -- whether all are in order: none so far is crossed, and the rest are
+  module _ (crossed : Bool) where
+    pub paired-end : length ranges ≤ i → not crossed ≡ (not crossed && rangesPaired (drop i ranges))
+    paired-end h = rw (drop-of-length-le ranges h) (sym (and-true (not crossed)))
 
-  pub paired-alone : i < length ranges → length ranges - i < 2 → false ≡ rangesPaired (drop i ranges)
-  paired-alone h l = rw (alone h l)
+    pub paired-next : i + 1 < length ranges
+        → (not (cond (leb (getD ranges i 0) (getD ranges (i + 1) 0)) crossed true) && rangesPaired (drop (i + 2) ranges))
+        ≡ (not crossed && rangesPaired (drop i ranges))
+    paired-next h = rw (pair h) (by (leb (getD ranges i 0) (getD ranges (i + 1) 0)) crossed (rangesPaired (drop (i + 2) ranges)))
+      where
+        by : (ordered crossed later : Bool) → (not (cond ordered crossed true) && later) ≡ (not crossed && (ordered && later))
+        by true crossed later = refl
+        by false true later = refl
+        by false false later = refl
 
-  pub paired-not : i + 1 < length ranges → getD ranges (i + 1) 0 < getD ranges i 0 → false ≡ rangesPaired (drop i ranges)
-  paired-not h l = rw (pair h, lt-leb (getD ranges i 0) (getD ranges (i + 1) 0) l)
+-- an odd one has no last
+pub paired-odd : (ranges : List ℕ) → length ranges % 2 ≡ 1 → false ≡ rangesPaired ranges
+paired-odd [] h = absurd (omega (arith, h))
+paired-odd (first ∷ []) h = refl
+paired-odd (first ∷ last ∷ ranges) h = rw (sym (paired-odd ranges (omega (arith, h)))) (sym (and-false (leb first last)))
 
-  pub paired-next : i + 1 < length ranges → getD ranges i 0 ≤ getD ranges (i + 1) 0 → rangesPaired (drop (i + 2) ranges) ≡ rangesPaired (drop i ranges)
-  paired-next h l = rw (pair h, le-leb (getD ranges i 0) (getD ranges (i + 1) 0) l)
+-- the larger of two is plain where both are
+larger-plain : (a b : ℕ) → leb (cond (ltb a b) b a) 1 ≡ (leb a 1 && leb b 1)
+larger-plain a b = cond-elim (λ (r : ℕ). leb r 1 ≡ (leb a 1 && leb b 1)) (ltb a b) second first
+  where
+    second : ltb a b ≡ true → leb b 1 ≡ (leb a 1 && leb b 1)
+    second t = elim (decLt 1 b) as (λ _. leb b 1 ≡ (leb a 1 && leb b 1)) [
+      | yes l ↦ rw (lt-leb b 1 l) (sym (and-false (leb a 1)))
+      | no l ↦ rw (le-leb a 1 (omega (arith, ltb-true a b t)))
+    ]
 
--- marks, one at a time
-module _ (marks : List ℕ) (i : ℕ) where
-  pub plain-end : length marks ≤ i → true ≡ marksPlain (drop i marks)
-  plain-end h = rw (drop-of-length-le marks h)
+    first : ltb a b ≡ false → leb a 1 ≡ (leb a 1 && leb b 1)
+    first t = elim (decLt 1 a) as (λ _. leb a 1 ≡ (leb a 1 && leb b 1)) [
+      | yes l ↦ rw (lt-leb a 1 l) refl
+      | no l ↦ rw (le-leb a 1 (omega arith), le-leb b 1 (omega (arith, ltb-false a b t))) refl
+    ]
 
-  pub plain-not : i < length marks → 1 < getD marks i 0 → false ≡ marksPlain (drop i marks)
-  plain-not h l = rw (next marks i h, lt-leb (getD marks i 0) 1 l)
+-- marks, one at a time: the largest so far is plain, and the rest are
+module _ (marks : List ℕ) (i most : ℕ) where
+  pub plain-end : length marks ≤ i → leb most 1 ≡ (leb most 1 && marksPlain (drop i marks))
+  plain-end h = rw (drop-of-length-le marks h) (sym (and-true (leb most 1)))
 
-  pub plain-next : i < length marks → getD marks i 0 ≤ 1 → marksPlain (drop (i + 1) marks) ≡ marksPlain (drop i marks)
-  plain-next h l = rw (next marks i h, le-leb (getD marks i 0) 1 l)
+  pub plain-next : i < length marks
+      → (let m = getD marks i 0 in leb (cond (ltb most m) m most) 1 && marksPlain (drop (i + 1) marks)) ≡ (leb most 1 && marksPlain (drop i marks))
+  plain-next h =
+      rw (next marks i h, larger-plain most (getD marks i 0))
+      (and-assoc (leb most 1) (leb (getD marks i 0) 1) (marksPlain (drop (i + 1) marks)))

@@ -1,36 +1,43 @@
--- The pairs not yet looked at are in order where all are. Assumes nothing.
+-- No pair so far is crossed, and those not yet looked at are in order, where all are. Assumes nothing.
 use denote.Ref.{now}
-use Prim.Native.Nat.{_-_}
-use mathlib.Core.Path.{_≡_, refl, _∙_}
+use Prim.Native.Nat.{_+_, _-_, _%_, _<_}
+use mathlib.Core.Path.{_≡_, refl, ap, _∙_}
+use mathlib.Core.Bool.{Bool, not, _&&_}
 use native.Mathlib.Omega.{arith}
 use lib.ListN.{length, drop}
 use borrow.Author.Needs.{needs}
 use Rattle.script.specs.Input.{rangesPaired}
-use Rattle.script.proofs.RangeLaws.{paired-end, paired-alone, paired-not, paired-next}
+use Rattle.script.proofs.RangeLaws.{paired-end, paired-next, paired-odd}
 use Rattle.script.proofs.ranges.ranges_paired.Statement.{statement}
 use Rattle.script.proofs.ranges.ranges_paired.Tie as tie
 
 abbrev Inv-loop : tie.InvT-loop
-Inv-loop ranges i₀ i = rangesPaired (drop i ranges) ≡ rangesPaired ranges
+Inv-loop ranges i₀ crossed₀ i crossed = ((not crossed && rangesPaired (drop i ranges)) ≡ rangesPaired ranges) × (i % 2 ≡ 0)
 
 abbrev μ-loop : tie.MeasureT-loop
-μ-loop ranges i₀ i = length ranges - i
+μ-loop ranges i₀ crossed₀ i crossed = length ranges - i
 
 returns : tie.Need-returns Inv-loop μ-loop
-returns c = let l = c .before .before in paired-alone (now (l .before .args .ranges)) (l .loop .i) (omega arith) (c .if1 .taken) ∙ l .loop .inv
+returns c = paired-odd (now (c .before .before .args .ranges)) (c .if1 .taken)
 
-returns-2 : tie.Need-returns-2 Inv-loop μ-loop
-returns-2 c =
-    let l = c .before .before .before .before .before in
-    paired-not (now (l .before .args .ranges)) (l .loop .i) (omega arith) (omega (arith, c .if2 .taken)) ∙ l .loop .inv
+-- a first that is there has its last
+pair-there : (c : tie.In-loop Inv-loop μ-loop) → c .before .loop .i + 1 < length (now (c .before .before .before .before .args .ranges))
+pair-there c = let l = c .before in omega (arith, c .loop-test .taken, l .loop .inv .1, l .before .if1 .left)
 
 loop-again : tie.Need-loop-again Inv-loop μ-loop
 loop-again c =
-    let l = c .before .before .before .before .before in
-    paired-next (now (l .before .args .ranges)) (l .loop .i) (omega arith) (c .if2 .left) ∙ l .loop .inv
+    let loops = c .before .before .before in
+    let l = loops .before in
+    let ranges = now (l .before .before .before .args .ranges) in
+    let all = ap (λ (crossed : Bool). not crossed && rangesPaired (drop (l .loop .i + 2) ranges)) (c .above .ensures)
+    ∙ paired-next ranges (l .loop .i) (l .loop .crossed) (pair-there loops)
+    ∙ l .loop .inv .0 in
+    (all, omega (arith, l .loop .inv .1))
 
-returns-3 : tie.Need-returns-3 Inv-loop μ-loop
-returns-3 c = let l = c .before in paired-end (now (l .before .args .ranges)) (l .loop .i) (omega arith) ∙ l .loop .inv
+returns-2 : tie.Need-returns-2 Inv-loop μ-loop
+returns-2 c =
+    let l = c .before in
+    paired-end (now (l .before .before .before .args .ranges)) (l .loop .i) (l .loop .crossed) (omega arith) ∙ l .loop .inv .0
 
 pub ranges-paired-spec : {M : Type 1} → statement M
 ranges-paired-spec =
@@ -38,16 +45,15 @@ ranges-paired-spec =
     (tie.spec
     Inv-loop
     μ-loop
-    (λ c. refl)
-    (λ c. search needs)
     returns
+    (λ c. (refl, refl))
     (λ c. search needs)
     (λ c. search needs)
     (λ c. search needs)
     (λ c. search needs)
-    (λ c. search needs)
-    returns-2
-    (λ c. search needs)
+    (λ c. pair-there (c .before .before))
+    (λ c κs. search needs)
+    (λ c. omega (arith, pair-there (c .before .before .before)))
     (λ c. search needs)
     loop-again
-    returns-3)
+    returns-2)
