@@ -24,7 +24,7 @@ use Rattle.run.specs.declared.answers.Progress.{Progress}
 use Rattle.run.proofs.Entries.{entries-length, entries-append}
 use Rattle.run.proofs.Room.{slot-room}
 use Rattle.run.proofs.SlotRuns.{slot-snoc, slot-clocks}
-use Rattle.run.proofs.Settled.{settled-more, rest-settled}
+use Rattle.run.proofs.Settled.{Settled, settled-more, rest-settled}
 use Rattle.replay.specs.Progress.{progressAfter}
 
 -- ---- effects
@@ -86,12 +86,16 @@ module _ (x : Scene) (slot : Slot) (flags : Flags) where
   run-next : (n : ℕ) → isRunning (run n .slot .mode) ≡ true → run (suc n) ≡ tookTurn (run n) (turnFrom x (run n))
   run-next n m = slot-snoc x n (slotBegun slot flags) ∙ ap (tookTurn (run n)) (let e : nextTurn x (run n) ≡ turnFrom x (run n) = rw m refl in e)
 
-  -- a slot that does not run has come to its end
-  pub run-rests : (n : ℕ) → isRunning (run n .slot .mode) ≡ false → n ≤ fullSteps (x .family) → run n ≡ fullSlotRun x slot flags
-  run-rests n m h =
+  -- a run that has settled has come to its end
+  run-settled : (n : ℕ) → Settled x (run n) → n ≤ fullSteps (x .family) → run n ≡ fullSlotRun x slot flags
+  run-settled n z h =
       let left = fullSteps (x .family) - n in
       let all : n + left ≡ fullSteps (x .family) = omega arith in
-      sym (settled-more x n left (slotBegun slot flags) (rest-settled x (run n) m)) ∙ ap run all
+      sym (settled-more x n left (slotBegun slot flags) z) ∙ ap run all
+
+  -- so has a slot that does not run
+  pub run-rests : (n : ℕ) → isRunning (run n .slot .mode) ≡ false → n ≤ fullSteps (x .family) → run n ≡ fullSlotRun x slot flags
+  run-rests n m = run-settled n (rest-settled x (run n) m)
 
   count-small : (n : ℕ) → run n .count ≤ n
   unfolding slotRunFor
@@ -120,6 +124,12 @@ module _ (x : Scene) (slot : Slot) (flags : Flags) where
 
       taken-is : t ≡ turnFrom x (run n)
       taken-is = taken ∙ ap turnOn is
+
+      -- one that fetched nothing was stopped, and so is every later one
+      pub run-stopped : fetchedBy (t .effect) ≡ 0 → n ≤ fullSteps (x .family) → run n ≡ fullSlotRun x slot flags
+      run-stopped none =
+          let next : nextTurn x (run n) ≡ t = (let e : nextTurn x (run n) ≡ turnFrom x (run n) = rw running refl in e) ∙ sym taken-is in
+          run-settled n (ap (λ (u : Turn). fetchedBy (u .effect)) next ∙ none)
 
       pub progress-after : progressAfter p t ≡ progressOf (run (suc n))
       progress-after = rw (taken-is, is) (sym (progress-took (run n) (turnFrom x (run n))) ∙ sym (ap progressOf (run-next n running)))

@@ -244,7 +244,8 @@ fn after_turn(progress: Progress, turn: Turn) -> Progress
     }
 }
 
-// Turn after turn, until the slot does not run or there was one turn more than the code RAM has bytes.
+// Turn after turn, until the slot does not run, is stopped, as every later turn would stop it, or there was one turn more than
+// the code RAM has bytes.
 fn run_turns<'a>(
     family: u8,
     code: &'a [u8],
@@ -276,6 +277,9 @@ fn run_turns<'a>(
         }
         let turn = take_turn(family, code, marks, enable, clocks, known, values, progress);
         let effect = turn.effect;
+        if fetched(effect) == 0 {
+            break progress;
+        }
         let used = 2 * progress.writes;
         store(effect, writes, used);
         progress = after_turn(progress, turn);

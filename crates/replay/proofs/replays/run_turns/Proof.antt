@@ -19,7 +19,7 @@ use Rattle.run.specs.SlotRun.{Scene, SlotRun, sceneFor, slotRunFor}
 use Rattle.run.specs.Replay.{entriesOf, writtenInto, progressOf, fullSlotRun}
 use Rattle.run.specs.declared.answers.Progress.{Progress}
 use Rattle.replay.specs.Progress.{progressAfter, RunsThrough}
-use Rattle.replay.proofs.Replaying.{run, run-rests, progress-after, store-room, store-is, turn-fits, written-length, writes-small}
+use Rattle.replay.proofs.Replaying.{run, run-rests, run-stopped, progress-after, store-room, store-is, turn-fits, written-length, writes-small}
 use Rattle.replay.proofs.replays.run_turns.Statement.{statement}
 use Rattle.replay.proofs.replays.run_turns.Tie as tie
 use Rattle.log.specs.Log.{logOf}
@@ -88,8 +88,11 @@ module _ (c : tie.At-loop Inv-loop μ-loop) where
 
 -- a turn that is taken
 module _ (c : tie.After-take-turn Inv-loop μ-loop) where
+  abbrev in-turn : tie.Else1 Inv-loop μ-loop
+  in-turn = c .before .before .before .before
+
   abbrev loop : tie.At-loop Inv-loop μ-loop
-  loop = c .before .before .before .before .before
+  loop = in-turn .before
 
   runs-on : isRunning (loop .loop .progress .slot .mode) ≡ true
   runs-on = sym (c .before .before .is-running .ensures) ∙ not-false _ (c .before .if2 .left)
@@ -122,15 +125,19 @@ module _ (c : tie.After-take-turn Inv-loop μ-loop) where
       (loop .loop .turns) (loop .loop .progress) (loop .loop .inv .0) runs-on (c .take-turn .result) (c .take-turn .ensures)
       (now (entered loop .args .writes)) (loop .loop .writes) (entered loop .pre .2) (loop .loop .inv .1)
 
+-- the turn that fetched an instruction
+abbrev taken : tie.After-struct-known Inv-loop μ-loop → tie.After-take-turn Inv-loop μ-loop
+taken c = c .before .before .before
+
 mul-used : tie.Need-mul-used Inv-loop μ-loop
-mul-used c = let l = loop (c .before) in omega (arith, turn-fits-at (c .before) .1)
+mul-used c = omega (arith, turn-fits-at (taken c) .1)
 
 store-requires : tie.Need-store-requires Inv-loop μ-loop
-store-requires c κs = room (c .before .before)
+store-requires c κs = room (taken (c .before))
 
 -- the turn whose write is stored
 abbrev turn-stored : tie.After-store Inv-loop μ-loop → tie.After-take-turn Inv-loop μ-loop
-turn-stored c = c .before .before .before
+turn-stored c = taken (c .before .before)
 
 after-turn-requires : tie.Need-after-turn-requires Inv-loop μ-loop
 after-turn-requires c κs = turn-fits-at (turn-stored (c .before .before))
@@ -141,6 +148,9 @@ turn-done c = turn-stored (c .before .before .before)
 
 add-turns : tie.Need-add-turns Inv-loop μ-loop
 add-turns c = omega (arith, few (turn-done c))
+
+loop-less : tie.Need-loop-less Inv-loop μ-loop
+loop-less c = omega (arith, in-turn (turn-done c) .if1 .left)
 
 loop-again : tie.Need-loop-again Inv-loop μ-loop
 loop-again c =
@@ -166,6 +176,22 @@ returns-2 c =
     (run-rests (scene l) (slot l) (flags l) (l .loop .turns) (ap (λ (p : Progress). isRunning (p .slot .mode)) (sym (l .loop .inv .0)) ∙ rests)
     (omega (arith, l .before .before .code-size .ensures)))
 
+-- a turn that fetched nothing
+abbrev turn-stopped : tie.Then3 Inv-loop μ-loop → tie.After-take-turn Inv-loop μ-loop
+turn-stopped c = c .before .before
+
+same-length-3 : tie.Need-same-length-3 Inv-loop μ-loop
+same-length-3 c = same (loop (turn-stopped c))
+
+returns-3 : tie.Need-returns-3 Inv-loop μ-loop
+returns-3 c =
+    let t = turn-stopped c in
+    let l = loop t in
+    ended l
+    (run-stopped (scene l) (slot l) (flags l) (low l) (entered l .pre .1)
+    (l .loop .turns) (l .loop .progress) (l .loop .inv .0) (runs-on t) (t .take-turn .result) (t .take-turn .ensures)
+    (sym (c .before .fetched .ensures) ∙ c .if3 .taken) (omega (arith, l .before .before .code-size .ensures)))
+
 pub run-turns-spec : {M : Type 1} → statement M
 run-turns-spec =
     tie.close
@@ -178,13 +204,16 @@ run-turns-spec =
     loop-holds
     (λ c κs. search needs)
     (λ c κs. search needs)
+    (λ c κs. search needs)
     mul-used
     store-requires
     after-turn-requires
     add-turns
-    (λ c. search needs)
+    loop-less
     loop-again
     same-length
     returns
     same-length-2
-    returns-2)
+    returns-2
+    same-length-3
+    returns-3)
