@@ -3,8 +3,8 @@ use Prim.Native.Nat.{ℕ}
 use mathlib.Core.Path.{_≡_, ap, subst, _∙_}
 use mathlib.Core.List.{List}
 use Rattle.script.specs.Script.{Script}
-use Rattle.audit.specs.Promises.{Audits}
-use Rattle.verdict.specs.declared.verdicts.Verdict.{Verdict}
+use Rattle.audit_script.specs.Promises.{Audits}
+use Rattle.audit_verdict.specs.declared.verdicts.Verdict.{Verdict}
 use Rattle.capi_audit.specs.Verdicts.{auditReply, HwsqAudit}
 use Rattle.capi_audit.specs.declared.verdicts.AuditReply.{AuditReply}
 

@@ -4,9 +4,9 @@ use mathlib.Core.Path.{_≡_}
 use mathlib.Core.List.{List}
 use Rattle.refusals.specs.Number.{faultNumber}
 use Rattle.script.specs.Script.{Script}
-use Rattle.verdict.specs.Auditor.{auditOf}
-use Rattle.audit.specs.Promises.{Audits}
-use Rattle.verdict.specs.declared.verdicts.Verdict.{Verdict}
+use Rattle.audit_verdict.specs.Auditor.{auditOf}
+use Rattle.audit_script.specs.Promises.{Audits}
+use Rattle.audit_verdict.specs.declared.verdicts.Verdict.{Verdict}
 use Rattle.capi_audit.specs.declared.verdicts.AuditReply.{AuditReply}
 
 abbrev pub auditReply : Verdict → AuditReply

@@ -2,8 +2,8 @@
 ghost use mathlib.Core.Path.{_≡_};
 ghost use Rattle.script.specs.Script.{scriptOf};
 ghost use Rattle.capi_audit.specs.Verdicts.{auditReply, HwsqAudit};
+use audit_verdict::Verdict;
 use isa::CodeAddress;
-use verdict::Verdict;
 
 #[repr(C)]
 pub struct AuditReply {
@@ -28,7 +28,7 @@ pub extern "C" fn hwsq_audit<'a>(
 ) -> AuditReply
     ensures { λ r. ⌜ HwsqAudit (scriptOf family (now (code .entry)) (now (marks .entry)) entry) (now (ranges .entry)) r ⌝ }
 {
-    audit_reply(audit::audit(family, code, marks, CodeAddress(entry), ranges))
+    audit_reply(audit_script::audit(family, code, marks, CodeAddress(entry), ranges))
 }
 
 fn audit_reply(verdict: Verdict) -> AuditReply

@@ -21,7 +21,7 @@ pub struct DecodeReply {
 pub extern "C" fn hwsq_decode(family: u8, bytes: &[u8]) -> DecodeReply
     ensures { λ r. ⌜ HwsqDecode family (now (bytes .entry)) r ⌝ }
 {
-    decode_reply(reader::decode(family, bytes))
+    decode_reply(isa_reader::decode(family, bytes))
 }
 
 fn decode_reply(found: Decoded) -> DecodeReply

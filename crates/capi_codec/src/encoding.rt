@@ -37,7 +37,7 @@ pub extern "C" fn hwsq_encode(
     let named = named_by(kind, first, second);
     match named {
         Named::Instruction(instruction) => {
-            encoded_reply(writer::encode(family, instruction, out))
+            encoded_reply(isa_writer::encode(family, instruction, out))
         }
         Named::Wide => unwritten(wide_number(family)),
         Named::Unknown => unwritten(unnamed_number(family)),

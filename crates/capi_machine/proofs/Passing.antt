@@ -4,14 +4,14 @@ use mathlib.Core.Path.{_≡_, refl, ap, subst, _∙_}
 use Rattle.isa.specs.declared.addresses.MmioAddress.{MmioAddress}
 use Rattle.log.specs.Log.{Log}
 use Rattle.log.specs.declared.place.Place.{Place}
-use Rattle.state.specs.declared.slots.Mode.{Mode}
-use Rattle.state.specs.declared.slots.SlotName.{SlotName}
-use Rattle.state.specs.declared.state.State.{State}
-use Rattle.registers.specs.Promises.{Begins, HostWrites, HostReads}
-use Rattle.registers.specs.declared.access.Access.{Access}
-use Rattle.registers.specs.declared.access.Reading.{Reading}
-use Rattle.machine.specs.Promises.{Steps}
-use Rattle.machine.specs.declared.steps.Stepped.{Stepped}
+use Rattle.machine_state.specs.declared.slots.Mode.{Mode}
+use Rattle.machine_state.specs.declared.slots.SlotName.{SlotName}
+use Rattle.machine_state.specs.declared.state.State.{State}
+use Rattle.host_registers.specs.Promises.{Begins, HostWrites, HostReads}
+use Rattle.host_registers.specs.declared.access.Access.{Access}
+use Rattle.host_registers.specs.declared.access.Reading.{Reading}
+use Rattle.machine_step.specs.Promises.{Steps}
+use Rattle.machine_step.specs.declared.steps.Stepped.{Stepped}
 use Rattle.capi_machine.specs.Images.{modeNumber, modeOf, slotFrom, slotImage, stateFrom, stateImage}
 use Rattle.capi_machine.specs.Accesses.{accessReply, readReply, HwsqFresh, HwsqWrite, HwsqRead}
 use Rattle.capi_machine.specs.Stepping.{slotNamed, stepReply, HwsqStep}

@@ -5,11 +5,11 @@ use mathlib.Core.Bool.{cond}
 use lib.Dec.{eqb}
 use Rattle.refusals.specs.Number.{unreadableNumber, unsteppableNumber}
 use Rattle.log.specs.Log.{Log}
-use Rattle.state.specs.declared.slots.SlotName.{SlotName}
-use Rattle.turn.specs.declared.turn.Effect.{Effect}
-use Rattle.machine.specs.Step.{stepOf}
-use Rattle.machine.specs.Promises.{Steps}
-use Rattle.machine.specs.declared.steps.Stepped.{Stepped}
+use Rattle.machine_state.specs.declared.slots.SlotName.{SlotName}
+use Rattle.machine_slot.specs.declared.turn.Effect.{Effect}
+use Rattle.machine_step.specs.Step.{stepOf}
+use Rattle.machine_step.specs.Promises.{Steps}
+use Rattle.machine_step.specs.declared.steps.Stepped.{Stepped}
 use Rattle.capi_machine.specs.Images.{stateFrom, stateImage}
 use Rattle.capi_machine.specs.declared.images.StateImage.{StateImage}
 use Rattle.capi_machine.specs.declared.stepping.EffectNumbers.{EffectNumbers}

@@ -4,10 +4,10 @@ ghost use Rattle.capi_machine.specs.Accesses.{accessReply, readReply, Hw
 use crate::images::StateImage;
 use crate::images::state_from;
 use crate::images::state_image;
+use host_registers::Access;
+use host_registers::Outcome;
+use host_registers::Reading;
 use isa::MmioAddress;
-use registers::Access;
-use registers::Outcome;
-use registers::Reading;
 
 #[repr(C)]
 pub struct AccessReply {
@@ -28,7 +28,7 @@ pub struct ReadReply {
 pub extern "C" fn hwsq_fresh(family: u8) -> AccessReply
     ensures { λ r. ⌜ HwsqFresh family r ⌝ }
 {
-    access_reply(fresh::fresh_state(family))
+    access_reply(host_fresh::fresh_state(family))
 }
 
 // The state after the host writes a word at an address.
@@ -36,7 +36,7 @@ pub extern "C" fn hwsq_fresh(family: u8) -> AccessReply
 pub extern "C" fn hwsq_write(state: StateImage, address: u32, word: u32) -> AccessReply
     ensures { λ r. ⌜ HwsqWrite state address word r ⌝ }
 {
-    access_reply(host::write_register(state_from(state), MmioAddress(address), word))
+    access_reply(host_access::write_register(state_from(state), MmioAddress(address), word))
 }
 
 // The word that the host reads at an address.
@@ -44,7 +44,7 @@ pub extern "C" fn hwsq_write(state: StateImage, address: u32, word: u32) -> Acce
 pub extern "C" fn hwsq_read(state: StateImage, address: u32) -> ReadReply
     ensures { λ r. ⌜ HwsqRead state address r ⌝ }
 {
-    read_reply(host::read_register(state_from(state), MmioAddress(address)))
+    read_reply(host_access::read_register(state_from(state), MmioAddress(address)))
 }
 
 fn read_reply(reading: Reading) -> ReadReply

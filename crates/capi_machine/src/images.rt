@@ -1,12 +1,12 @@
 // The machine's state as C holds it: the same registers, with numbers for modes.
 ghost use mathlib.Core.Path.{_≡_};
 ghost use Rattle.capi_machine.specs.Images.{modeOf, modeNumber, slotFrom, slotImage, stateFrom, stateImage};
-use flags::Flags;
 use isa::CodeAddress;
 use isa::MmioAddress;
-use state::Mode;
-use state::Slot;
-use state::State;
+use machine_flags::Flags;
+use machine_state::Mode;
+use machine_state::Slot;
+use machine_state::State;
 
 #[repr(C)]
 pub struct SlotImage {

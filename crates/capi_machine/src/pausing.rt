@@ -1,15 +1,15 @@
 // Whether memory is paused.
 ghost use mathlib.Core.Path.{_≡_};
-ghost use Rattle.flags.specs.Flags.{pausedOf};
+ghost use Rattle.machine_flags.specs.Flags.{pausedOf};
 ghost use Rattle.capi_machine.specs.Images.{stateFrom};
 use crate::images::StateImage;
-use flags::Flags;
+use machine_flags::Flags;
 
 #[no_mangle]
 pub extern "C" fn hwsq_paused(state: StateImage) -> bool
     ensures { λ r. ⌜ r ≡ pausedOf ((stateFrom state) .family) ((stateFrom state) .flags) ⌝ }
 {
-    flags::memory_paused(
+    machine_flags::memory_paused(
         state.family,
         Flags {
             values: state.values,

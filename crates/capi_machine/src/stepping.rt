@@ -7,9 +7,9 @@ use crate::images::state_from;
 use crate::images::state_image;
 use isa::MmioAddress;
 use log::Place;
-use machine::Stepped;
-use state::SlotName;
-use turn::Effect;
+use machine_slot::Effect;
+use machine_state::SlotName;
+use machine_step::Stepped;
 
 // What a step did, as numbers.
 pub struct EffectNumbers {
@@ -53,7 +53,7 @@ pub extern "C" fn hwsq_step<'a>(
 ) -> StepReply
     ensures { λ r. ⌜ HwsqStep state slot (logOf (now (clocks .entry)) (now (known .entry)) (now (values .entry))) row used r ⌝ }
 {
-    step_reply(machine::step(
+    step_reply(machine_step::step(
         state_from(state),
         slot_named(slot),
         clocks,

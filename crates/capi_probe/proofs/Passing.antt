@@ -2,12 +2,12 @@
 use Prim.Native.Nat.{ℕ, _≤_, _<_}
 use mathlib.Core.Path.{_≡_, sym, ap, subst, _∙_}
 use borrow.Author.Tests.{lt-ltb, le-ltb}
-use Rattle.floats.proofs.Comparison.{never}
-use Rattle.floats.specs.Pattern.{patternOf}
-use Rattle.probe.specs.Sampling.{sampleOf, rawVolts, Samples}
-use Rattle.probe.specs.declared.calibration.Calibration.{Calibration}
-use Rattle.probe.specs.declared.gate.Gate.{Gate}
-use Rattle.probe.specs.declared.sampling.Sampled.{Sampled}
+use Rattle.probe_floats.proofs.Comparison.{never}
+use Rattle.probe_floats.specs.Pattern.{patternOf}
+use Rattle.probe_gates.specs.Sampling.{sampleOf, rawVolts, Samples}
+use Rattle.probe_gates.specs.declared.calibration.Calibration.{Calibration}
+use Rattle.probe_gates.specs.declared.gate.Gate.{Gate}
+use Rattle.probe_gates.specs.declared.sampling.Sampled.{Sampled}
 use Rattle.capi_probe.specs.Samples.{gateOf, calibrationOf, sampledReply, unsampledReply, sampleReply, HwsqSample}
 use Rattle.capi_probe.specs.declared.samples.SampleReply.{SampleReply}
 

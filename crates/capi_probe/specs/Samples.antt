@@ -3,13 +3,13 @@ use Prim.Native.Nat.{ℕ}
 use mathlib.Core.Path.{_≡_}
 use mathlib.Core.Bool.{false, cond}
 use lib.Dec.{ltb, eqb}
-use Rattle.floats.specs.Pattern.{floatOf, patternOf, nanPattern}
-use Rattle.probe.specs.Refusal.{unusable}
-use Rattle.probe.specs.Sampling.{sampleOf, rawVolts, Samples}
-use Rattle.probe.specs.declared.calibration.Calibration.{Calibration}
-use Rattle.probe.specs.declared.gate.Gate.{Gate}
-use Rattle.probe.specs.declared.gate.Reading.{Reading}
-use Rattle.probe.specs.declared.sampling.Sampled.{Sampled}
+use Rattle.probe_floats.specs.Pattern.{floatOf, patternOf, nanPattern}
+use Rattle.probe_gates.specs.Refusal.{unusable}
+use Rattle.probe_gates.specs.Sampling.{sampleOf, rawVolts, Samples}
+use Rattle.probe_gates.specs.declared.calibration.Calibration.{Calibration}
+use Rattle.probe_gates.specs.declared.gate.Gate.{Gate}
+use Rattle.probe_gates.specs.declared.gate.Reading.{Reading}
+use Rattle.probe_gates.specs.declared.sampling.Sampled.{Sampled}
 use Rattle.capi_probe.specs.declared.samples.SampleReply.{SampleReply}
 
 -- 0 normal, 1 inverted, 2 dead; a dead gate's levels are not looked at

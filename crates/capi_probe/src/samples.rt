@@ -1,10 +1,10 @@
 // Probe gates, with floats as bit patterns.
 ghost use mathlib.Core.Path.{_≡_};
 ghost use Rattle.capi_probe.specs.Samples.{gateOf, unsampledReply, readingNumber, sampledReply, HwsqSample};
-use probe::Calibration;
-use probe::Gate;
-use probe::Reading;
-use probe::Sampled;
+use probe_gates::Calibration;
+use probe_gates::Gate;
+use probe_gates::Reading;
+use probe_gates::Sampled;
 
 #[repr(C)]
 pub struct SampleReply {
@@ -37,20 +37,20 @@ pub extern "C" fn hwsq_sample(
         return unsampled();
     }
     let calibration = Calibration {
-        gain: floats::float_of(gain),
-        offset: floats::float_of(offset),
+        gain: probe_floats::float_of(gain),
+        offset: probe_floats::float_of(offset),
     };
-    let volts = calibration.volts(floats::float_of(raw));
-    let sampled = probe::sample(gate_of(gate, low, high), calibration, raw);
-    sampled_reply(sampled, floats::pattern_of(volts))
+    let volts = calibration.volts(probe_floats::float_of(raw));
+    let sampled = probe_gates::sample(gate_of(gate, low, high), calibration, raw);
+    sampled_reply(sampled, probe_floats::pattern_of(volts))
 }
 
 // Levels of a dead gate are not looked at.
 fn gate_of(gate: u8, low: u32, high: u32) -> Gate
     ensures { λ r. ⌜ r ≡ gateOf gate low high ⌝ }
 {
-    let low = floats::float_of(low);
-    let high = floats::float_of(high);
+    let low = probe_floats::float_of(low);
+    let high = probe_floats::float_of(high);
     match gate {
         0 => Gate::Normal { low, high },
         1 => Gate::Inverted { low, high },

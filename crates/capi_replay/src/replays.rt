@@ -54,7 +54,7 @@ pub extern "C" fn hwsq_replay<'a>(
     ensures { λ r. ⌜ HwsqReplay (scriptOf family (now (code .entry)) (now (marks .entry)) entry) (registersOf addr «data» «flags_0» «flags_1» enable)
         (logOf (now (clocks .entry)) (now (known .entry)) (now (values .entry))) (now (writes .entry)) (now (writes .exit)) r ⌝ }
 {
-    replay_reply(replay::replay(
+    replay_reply(run_replay::replay(
         family,
         code,
         marks,

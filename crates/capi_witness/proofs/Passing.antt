@@ -4,8 +4,8 @@ use mathlib.Core.Path.{_≡_, ap, subst, _∙_}
 use mathlib.Core.List.{List}
 use Rattle.log.specs.Log.{Log}
 use Rattle.script.specs.Script.{Script}
-use Rattle.witness.specs.Witnesses.{Witnesses}
-use Rattle.witness.specs.declared.showing.WitnessAnswer.{WitnessAnswer}
+use Rattle.audit_witness.specs.Witnesses.{Witnesses}
+use Rattle.audit_witness.specs.declared.showing.WitnessAnswer.{WitnessAnswer}
 use Rattle.capi_witness.specs.Showing.{witnessReply, HwsqWitness}
 use Rattle.capi_witness.specs.declared.showing.WitnessReply.{WitnessReply}
 

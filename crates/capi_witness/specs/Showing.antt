@@ -6,11 +6,11 @@ use Rattle.refusals.specs.Number.{faultNumber, unshowableNumber}
 use Rattle.isa.specs.declared.addresses.CodeAddress.{CodeAddress}
 use Rattle.log.specs.Log.{Log}
 use Rattle.script.specs.Script.{Script}
-use Rattle.verdict.specs.Witness.{secondAddr, secondData}
-use Rattle.verdict.specs.declared.verdicts.Verdict.{Verdict}
-use Rattle.witness.specs.Witnesses.{witnessOf, Witnesses}
-use Rattle.witness.specs.declared.showing.Shown.{Shown}
-use Rattle.witness.specs.declared.showing.WitnessAnswer.{WitnessAnswer}
+use Rattle.audit_verdict.specs.Witness.{secondAddr, secondData}
+use Rattle.audit_verdict.specs.declared.verdicts.Verdict.{Verdict}
+use Rattle.audit_witness.specs.Witnesses.{witnessOf, Witnesses}
+use Rattle.audit_witness.specs.declared.showing.Shown.{Shown}
+use Rattle.audit_witness.specs.declared.showing.WitnessAnswer.{WitnessAnswer}
 use Rattle.capi_witness.specs.declared.showing.WitnessReply.{WitnessReply}
 
 -- a verdict's number, its place and, of a pass, its counts; the second start of 4 and 5 by that number

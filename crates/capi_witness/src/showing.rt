@@ -4,10 +4,10 @@ ghost use mathlib.Core.Bool.{cond};
 ghost use Rattle.log.specs.Log.{logOf};
 ghost use Rattle.script.specs.Script.{scriptOf};
 ghost use Rattle.capi_witness.specs.Showing.{toldReply, shownReply, unshownReply, witnessReply, HwsqWitness};
+use audit_verdict::Verdict;
+use audit_witness::Shown;
+use audit_witness::WitnessAnswer;
 use isa::CodeAddress;
-use verdict::Verdict;
-use witness::Shown;
-use witness::WitnessAnswer;
 
 #[repr(C)]
 pub struct WitnessReply {
@@ -42,7 +42,7 @@ pub extern "C" fn hwsq_witness<'a>(
     ensures { λ r. ⌜ HwsqWitness (scriptOf family (now (code .entry)) (now (marks .entry)) entry) (now (ranges .entry))
         (logOf (now (clocks .entry)) (now (known .entry)) (now (values .entry))) (logOf (now (clocks .exit)) (now (known .exit)) (now (values .exit))) r ⌝ }
 {
-    witness_reply(witness::witness(
+    witness_reply(audit_witness::witness(
         family,
         code,
         marks,

@@ -7,6 +7,6 @@ fn main() {
     let mut input = [0u8; 32769];
     let n = io::read_full(STDIN_FILENO, &mut input);
     let mut out = [0u8; 65536];
-    let k = job::report(&input[..n], &mut out);
+    let k = job_output::report(&input[..n], &mut out);
     io::write_all(STDOUT_FILENO, &out[..k]);
 }

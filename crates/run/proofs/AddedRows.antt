@@ -10,13 +10,13 @@ use Rattle.log.specs.Log.{Log}
 use Rattle.log.specs.Validity.{validLog, validPlace}
 use Rattle.log.specs.declared.place.Place.{Place}
 use Rattle.log.proofs.ValidLaws.{none-used-at-end, used-below, row-within, valid-columns, valid-row-start}
-use Rattle.waits.specs.Left.{leftFrom, leftOf}
-use Rattle.waits.specs.Wait.{waitFrom, waitOf}
-use Rattle.waits.proofs.LeftLaws.{left-end, left-on}
-use Rattle.waits.proofs.WaitLaws.{wait-end, wait-in, wait-on, wait-elim, wait-valid}
-use Rattle.ewaits.specs.Ewait.{hasReading, passing, searchFrom, ewaitOf}
-use Rattle.ewaits.specs.declared.ewait.Released.{Released}
-use Rattle.ewaits.proofs.EwaitLaws.{ReleasedWithin, readsAt, search-here, search-next, search-elim, ewait-valid, valid-search}
+use Rattle.log_waits.specs.Left.{leftFrom, leftOf}
+use Rattle.log_waits.specs.Wait.{waitFrom, waitOf}
+use Rattle.log_waits.proofs.LeftLaws.{left-end, left-on}
+use Rattle.log_waits.proofs.WaitLaws.{wait-end, wait-in, wait-on, wait-elim, wait-valid}
+use Rattle.log_ewaits.specs.Ewait.{hasReading, passing, searchFrom, ewaitOf}
+use Rattle.log_ewaits.specs.declared.ewait.Released.{Released}
+use Rattle.log_ewaits.proofs.EwaitLaws.{ReleasedWithin, readsAt, search-here, search-next, search-elim, ewait-valid, valid-search}
 use Rattle.run.specs.SlotRun.{Scene}
 use Rattle.run.specs.MoreLog.{withRows}
 use Rattle.run.proofs.TwoLogs.{ReleasedToo, LogsBeside}

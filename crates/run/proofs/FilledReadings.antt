@@ -11,14 +11,14 @@ use Rattle.log.specs.Log.{Log}
 use Rattle.log.specs.Validity.{validLog, validPlace}
 use Rattle.log.specs.declared.place.Place.{Place}
 use Rattle.log.proofs.ValidLaws.{used-below, valid-row-start}
-use Rattle.waits.specs.Left.{leftOf}
-use Rattle.waits.specs.Wait.{waitOf}
-use Rattle.waits.proofs.LeftLaws.{left-on, left-in-row, left-from, left-later, left-fits}
-use Rattle.waits.proofs.WaitLaws.{wait-cut, wait-spent, wait-valid}
-use Rattle.ewaits.specs.Ewait.{bitOf, hasReading, searchFrom, passedBy, OnReading, leftAfter}
-use Rattle.ewaits.specs.declared.ewait.Released.{Released}
-use Rattle.ewaits.proofs.EwaitLaws.{FoundBy, EndsAt, EndsFrom, ReleasedWithin, readsAt, search-finds, search-ends}
-use Rattle.ewaits.proofs.EwaitLaws.{ewait-on-reading, ewait-spent, ewait-valid, valid-search}
+use Rattle.log_waits.specs.Left.{leftOf}
+use Rattle.log_waits.specs.Wait.{waitOf}
+use Rattle.log_waits.proofs.LeftLaws.{left-on, left-in-row, left-from, left-later, left-fits}
+use Rattle.log_waits.proofs.WaitLaws.{wait-cut, wait-spent, wait-valid}
+use Rattle.log_ewaits.specs.Ewait.{bitOf, hasReading, searchFrom, passedBy, OnReading, leftAfter}
+use Rattle.log_ewaits.specs.declared.ewait.Released.{Released}
+use Rattle.log_ewaits.proofs.EwaitLaws.{FoundBy, EndsAt, EndsFrom, ReleasedWithin, readsAt, search-finds, search-ends}
+use Rattle.log_ewaits.proofs.EwaitLaws.{ewait-on-reading, ewait-spent, ewait-valid, valid-search}
 use Rattle.run.specs.SlotRun.{Scene}
 use Rattle.run.specs.MoreLog.{FilledIn}
 use Rattle.run.proofs.TwoLogs.{ReleasedToo, LogsBeside}

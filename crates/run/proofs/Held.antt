@@ -6,12 +6,12 @@ use native.Mathlib.Omega.{arith}
 use lib.Dec.{eqb}
 use lib.ListN.{length, getD, replicate, length-append, length-replicate, List·getD-append}
 use Rattle.families.specs.Family.{codeSize}
-use Rattle.fetch.proofs.FetchLaws.{same-fetch}
-use Rattle.fetch.proofs.Places.{size-small}
-use Rattle.flags.specs.declared.flags.Flags.{Flags}
-use Rattle.state.specs.declared.slots.Slot.{Slot}
-use Rattle.state.specs.declared.slots.SlotName.{SlotName}
-use Rattle.state.proofs.SlotLaws.{has-a}
+use Rattle.isa_fetch.proofs.FetchLaws.{same-fetch}
+use Rattle.isa_fetch.proofs.Places.{size-small}
+use Rattle.machine_flags.specs.declared.flags.Flags.{Flags}
+use Rattle.machine_state.specs.declared.slots.Slot.{Slot}
+use Rattle.machine_state.specs.declared.slots.SlotName.{SlotName}
+use Rattle.machine_state.proofs.SlotLaws.{has-a}
 use Rattle.script.specs.Script.{Script}
 use Rattle.script.proofs.Scripts.{Fits, fits-script}
 use Rattle.run.specs.SlotRun.{Scene, sceneFor, slotScript, stateWith, Holds}

@@ -7,12 +7,12 @@ use Rattle.families.specs.Family.{knownFamily}
 use Rattle.log.specs.Log.{Log}
 use Rattle.log.specs.Validity.{validLog, validPlace}
 use Rattle.log.proofs.ValidLaws.{valid-row-start}
-use Rattle.flags.specs.declared.flags.Flags.{Flags}
-use Rattle.state.specs.Slot.{hasSlot, isRunning, slotOf}
-use Rattle.state.specs.declared.slots.Slot.{Slot}
-use Rattle.state.specs.declared.slots.SlotName.{SlotName}
-use Rattle.state.specs.declared.state.State.{State}
-use Rattle.machine.specs.Step.{afterTurn, advanceOf, stepOf}
+use Rattle.machine_flags.specs.declared.flags.Flags.{Flags}
+use Rattle.machine_state.specs.Slot.{hasSlot, isRunning, slotOf}
+use Rattle.machine_state.specs.declared.slots.Slot.{Slot}
+use Rattle.machine_state.specs.declared.slots.SlotName.{SlotName}
+use Rattle.machine_state.specs.declared.state.State.{State}
+use Rattle.machine_step.specs.Step.{afterTurn, advanceOf, stepOf}
 use Rattle.run.specs.Run.{begun, nextStep, runFor}
 use Rattle.run.specs.SlotRun.{Scene, SlotRun, slotBegun, tookTurn, nextTurn, slotRunFor, sceneOf, inState, slotRunOf, Holds}
 use Rattle.run.specs.Replay.{fullSteps, fullSlotRun, fullRun, FollowsSteps}

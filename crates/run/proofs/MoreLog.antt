@@ -10,16 +10,16 @@ use Rattle.isa.proofs.Tests.{both-left, cond-elim}
 use Rattle.log.specs.Log.{Log}
 use Rattle.log.specs.Validity.{validLog, logStart, validPlace}
 use Rattle.log.proofs.ValidLaws.{valid-row-start}
-use Rattle.waits.specs.Left.{leftOf}
-use Rattle.flags.specs.declared.flags.Flags.{Flags}
-use Rattle.state.specs.Slot.{hasSlot, isRunning, slotOf}
-use Rattle.state.specs.declared.slots.Mode.{Mode}
-use Rattle.state.specs.declared.slots.Slot.{Slot}
-use Rattle.state.specs.declared.slots.SlotName.{SlotName}
-use Rattle.state.specs.declared.state.State.{State}
-use Rattle.state.proofs.SlotLaws.{known-slot, slot-back}
-use Rattle.machine.specs.Step.{advanceOf, stepOf}
-use Rattle.machine.specs.declared.steps.Stepped.{Stepped}
+use Rattle.log_waits.specs.Left.{leftOf}
+use Rattle.machine_flags.specs.declared.flags.Flags.{Flags}
+use Rattle.machine_state.specs.Slot.{hasSlot, isRunning, slotOf}
+use Rattle.machine_state.specs.declared.slots.Mode.{Mode}
+use Rattle.machine_state.specs.declared.slots.Slot.{Slot}
+use Rattle.machine_state.specs.declared.slots.SlotName.{SlotName}
+use Rattle.machine_state.specs.declared.state.State.{State}
+use Rattle.machine_state.proofs.SlotLaws.{known-slot, slot-back}
+use Rattle.machine_step.specs.Step.{advanceOf, stepOf}
+use Rattle.machine_step.specs.declared.steps.Stepped.{Stepped}
 use Rattle.run.specs.Run.{noted, begun, runFor}
 use Rattle.run.specs.SlotRun.{Scene, withLog, SlotRun, slotBegun, slotRunFor, sceneOf, inState}
 use Rattle.run.specs.MoreLog.{withRows, FilledIn, SaysMore, KeepsWrites, NoLater, Unfinished, AddsOnly, KeepsUp, RowsAdded, ReadingsFilled}

@@ -10,14 +10,14 @@ use lib.ListN.{getD}
 use Rattle.families.specs.Family.{byFamily}
 use Rattle.isa.specs.Opcode.{opcodeAt}
 use Rattle.isa.specs.Reader.{decodeOf}
-use Rattle.fetch.specs.Fetch.{allMarked, fetchOf}
-use Rattle.waits.specs.Left.{leftIn}
-use Rattle.ewaits.specs.Ewait.{bitOf, hasReading, searchIn}
+use Rattle.isa_fetch.specs.Fetch.{allMarked, fetchOf}
+use Rattle.log_waits.specs.Left.{leftIn}
+use Rattle.log_ewaits.specs.Ewait.{bitOf, hasReading, searchIn}
 use Rattle.log.specs.Log.{logOf}
 use Rattle.log.specs.Validity.{validLog, validPlace}
-use Rattle.turn.specs.Turn.{performOf}
-use Rattle.state.specs.declared.slots.SlotName.{SlotName}
-use Rattle.machine.specs.Step.{advanceOf, stepOf}
+use Rattle.machine_slot.specs.Turn.{performOf}
+use Rattle.machine_state.specs.declared.slots.SlotName.{SlotName}
+use Rattle.machine_step.specs.Step.{advanceOf, stepOf}
 use Rattle.run.specs.Run.{runFor}
 use Rattle.run.specs.MoreLog.{FilledIn, Unfinished}
 use Rattle.run.specs.Pairs.{holding, after, cutOff, rowAdded, twoEwaits, unread, eventFilled, Pairs}

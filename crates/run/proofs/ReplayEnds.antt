@@ -8,10 +8,10 @@ use lib.Dec.{leb}
 use lib.ListN.{length, take}
 use Rattle.isa.proofs.Tests.{cond-elim}
 use Rattle.log.specs.Validity.{validLog}
-use Rattle.flags.specs.declared.flags.Flags.{Flags}
-use Rattle.state.specs.declared.slots.Slot.{Slot}
+use Rattle.machine_flags.specs.declared.flags.Flags.{Flags}
+use Rattle.machine_state.specs.declared.slots.Slot.{Slot}
 use Rattle.script.specs.Input.{scriptFits}
-use Rattle.machine.specs.declared.steps.Stepped.{Stepped}
+use Rattle.machine_step.specs.declared.steps.Stepped.{Stepped}
 use Rattle.refusals.specs.declared.refusals.Unreplayable.{Unreplayable}
 use Rattle.run.specs.Run.{Run}
 use Rattle.run.specs.SlotRun.{Scene, slotScript, withLog, slotRunOf}

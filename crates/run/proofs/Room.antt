@@ -8,16 +8,16 @@ use Rattle.isa.specs.declared.addresses.MmioAddress.{MmioAddress}
 use Rattle.isa.specs.declared.instructions.Instruction.{Instruction}
 use Rattle.isa.specs.declared.reader.Decoded.{Decoded}
 use Rattle.refusals.specs.declared.refusals.Unreadable.{Unreadable}
-use Rattle.fetch.proofs.Places.{size-small, Lies, fetch-lies}
+use Rattle.isa_fetch.proofs.Places.{size-small, Lies, fetch-lies}
 use Rattle.log.specs.Log.{Log}
 use Rattle.log.specs.declared.place.Place.{Place}
-use Rattle.actions.specs.Action.{mergeOf}
-use Rattle.turn.specs.Turn.{performOf, turnOf}
-use Rattle.actions.specs.declared.actions.Part.{Part}
-use Rattle.flags.specs.declared.flags.Flags.{Flags}
-use Rattle.state.specs.declared.slots.Slot.{Slot}
-use Rattle.turn.specs.declared.turn.Effect.{Effect}
-use Rattle.turn.specs.declared.turn.Turn.{Turn}
+use Rattle.machine_actions.specs.Action.{mergeOf}
+use Rattle.machine_slot.specs.Turn.{performOf, turnOf}
+use Rattle.machine_actions.specs.declared.actions.Part.{Part}
+use Rattle.machine_flags.specs.declared.flags.Flags.{Flags}
+use Rattle.machine_state.specs.declared.slots.Slot.{Slot}
+use Rattle.machine_slot.specs.declared.turn.Effect.{Effect}
+use Rattle.machine_slot.specs.declared.turn.Turn.{Turn}
 use Rattle.run.specs.Run.{wroteBy}
 use Rattle.run.specs.SlotRun.{Scene, fetchIn, SlotRun, slotBegun, tookTurn, nextTurn, slotRunFor}
 use Rattle.run.proofs.SlotRuns.{slot-elim, turn-elim}

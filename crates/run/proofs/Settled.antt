@@ -9,19 +9,19 @@ use native.Mathlib.Omega.{arith}
 use Rattle.families.specs.Family.{codeSize}
 use Rattle.isa.specs.declared.reader.Decoded.{Decoded}
 use Rattle.refusals.specs.declared.refusals.Unreadable.{Unreadable}
-use Rattle.fetch.proofs.Places.{Lies, fetch-lies, fetch-past}
+use Rattle.isa_fetch.proofs.Places.{Lies, fetch-lies, fetch-past}
 use Rattle.log.specs.Log.{Log}
 use Rattle.log.specs.declared.place.Place.{Place}
-use Rattle.actions.specs.Action.{actionOf}
-use Rattle.state.specs.Slot.{isRunning}
-use Rattle.time.specs.Time.{elapsedOf}
-use Rattle.turn.specs.Turn.{effectOf, ipAfter, modeAfter, performOf, sameTurn, turnOf}
-use Rattle.actions.specs.declared.actions.Action.{Action}
-use Rattle.flags.specs.declared.flags.Flags.{Flags}
-use Rattle.state.specs.declared.slots.Mode.{Mode}
-use Rattle.state.specs.declared.slots.Slot.{Slot}
-use Rattle.turn.specs.declared.turn.Effect.{Effect}
-use Rattle.turn.specs.declared.turn.Turn.{Turn}
+use Rattle.machine_actions.specs.Action.{actionOf}
+use Rattle.machine_state.specs.Slot.{isRunning}
+use Rattle.machine_time.specs.Time.{elapsedOf}
+use Rattle.machine_slot.specs.Turn.{effectOf, ipAfter, modeAfter, performOf, sameTurn, turnOf}
+use Rattle.machine_actions.specs.declared.actions.Action.{Action}
+use Rattle.machine_flags.specs.declared.flags.Flags.{Flags}
+use Rattle.machine_state.specs.declared.slots.Mode.{Mode}
+use Rattle.machine_state.specs.declared.slots.Slot.{Slot}
+use Rattle.machine_slot.specs.declared.turn.Effect.{Effect}
+use Rattle.machine_slot.specs.declared.turn.Turn.{Turn}
 use Rattle.run.specs.Replay.{fullSteps, fullSlotRun}
 use Rattle.run.specs.Run.{fetchedBy}
 use Rattle.run.specs.SlotRun.{Scene, fetchIn, SlotRun, slotBegun, tookTurn, turnFrom, nextTurn, slotRunFor}

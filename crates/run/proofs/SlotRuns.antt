@@ -9,14 +9,14 @@ use Rattle.isa.proofs.Tests.{cond-elim}
 use Rattle.log.specs.Validity.{validLog, logStart, validPlace}
 use Rattle.log.specs.declared.place.Place.{Place}
 use Rattle.log.proofs.ValidLaws.{valid-row-start}
-use Rattle.waits.specs.Left.{leftOf}
-use Rattle.flags.specs.declared.flags.Flags.{Flags}
-use Rattle.state.specs.Slot.{isRunning}
-use Rattle.state.specs.declared.slots.Slot.{Slot}
-use Rattle.turn.specs.Turn.{sameTurn}
-use Rattle.turn.specs.declared.turn.Effect.{Effect}
-use Rattle.turn.specs.declared.turn.Turn.{Turn}
-use Rattle.turn.proofs.TurnLaws.{turn-clocks, turn-place}
+use Rattle.log_waits.specs.Left.{leftOf}
+use Rattle.machine_flags.specs.declared.flags.Flags.{Flags}
+use Rattle.machine_state.specs.Slot.{isRunning}
+use Rattle.machine_state.specs.declared.slots.Slot.{Slot}
+use Rattle.machine_slot.specs.Turn.{sameTurn}
+use Rattle.machine_slot.specs.declared.turn.Effect.{Effect}
+use Rattle.machine_slot.specs.declared.turn.Turn.{Turn}
+use Rattle.machine_slot.proofs.TurnLaws.{turn-clocks, turn-place}
 use Rattle.run.specs.SlotRun.{Scene, fetchIn, SlotRun, slotBegun, tookTurn, turnFrom, nextTurn, slotRunFor, SameScene}
 
 -- the clock law: a log's total is what waits spent, what ewaits passed by and what is left, after any number of turns

@@ -11,20 +11,20 @@ use Rattle.refusals.specs.declared.refusals.Unreadable.{Unreadable}
 use Rattle.log.specs.Log.{Log}
 use Rattle.log.specs.Validity.{logStart}
 use Rattle.log.specs.declared.place.Place.{Place}
-use Rattle.waits.specs.Wait.{waitOf}
-use Rattle.ewaits.specs.Ewait.{ewaitOf}
-use Rattle.ewaits.specs.declared.ewait.Released.{Released}
-use Rattle.actions.specs.Action.{actionOf}
-use Rattle.actions.specs.declared.actions.Action.{Action}
-use Rattle.flags.specs.declared.flags.Flags.{Flags}
-use Rattle.state.specs.Slot.{isRunning}
-use Rattle.state.specs.declared.slots.Mode.{Mode}
-use Rattle.state.specs.declared.slots.Slot.{Slot}
-use Rattle.time.specs.Time.{afterEwait, elapsedOf}
-use Rattle.time.specs.declared.elapsed.Elapsed.{Elapsed}
-use Rattle.turn.specs.Turn.{modeAfter, effectOf, performOf, sameTurn, turnOf}
-use Rattle.turn.specs.declared.turn.Effect.{Effect}
-use Rattle.turn.specs.declared.turn.Turn.{Turn}
+use Rattle.log_waits.specs.Wait.{waitOf}
+use Rattle.log_ewaits.specs.Ewait.{ewaitOf}
+use Rattle.log_ewaits.specs.declared.ewait.Released.{Released}
+use Rattle.machine_actions.specs.Action.{actionOf}
+use Rattle.machine_actions.specs.declared.actions.Action.{Action}
+use Rattle.machine_flags.specs.declared.flags.Flags.{Flags}
+use Rattle.machine_state.specs.Slot.{isRunning}
+use Rattle.machine_state.specs.declared.slots.Mode.{Mode}
+use Rattle.machine_state.specs.declared.slots.Slot.{Slot}
+use Rattle.machine_time.specs.Time.{afterEwait, elapsedOf}
+use Rattle.machine_time.specs.declared.elapsed.Elapsed.{Elapsed}
+use Rattle.machine_slot.specs.Turn.{modeAfter, effectOf, performOf, sameTurn, turnOf}
+use Rattle.machine_slot.specs.declared.turn.Effect.{Effect}
+use Rattle.machine_slot.specs.declared.turn.Turn.{Turn}
 use Rattle.run.specs.Run.{Write, wroteBy, fetchedBy}
 use Rattle.run.specs.SlotRun.{Scene, withLog, fetchIn, SlotRun, slotBegun, tookTurn, nextTurn, slotRunFor}
 use Rattle.run.specs.MoreLog.{KeepsWrites}

@@ -8,12 +8,12 @@ use lib.ListN.{getD}
 use Rattle.log.specs.Log.{Log, logOf}
 use Rattle.log.specs.Validity.{validLog, logStart}
 use Rattle.log.specs.declared.place.Place.{Place}
-use Rattle.waits.specs.Left.{leftOf}
-use Rattle.ewaits.specs.Ewait.{bitOf, SameReadings}
-use Rattle.state.specs.Slot.{slotOf}
-use Rattle.state.specs.declared.slots.Mode.{Mode}
-use Rattle.state.specs.declared.slots.SlotName.{SlotName}
-use Rattle.state.specs.declared.state.State.{State}
+use Rattle.log_waits.specs.Left.{leftOf}
+use Rattle.log_ewaits.specs.Ewait.{bitOf, SameReadings}
+use Rattle.machine_state.specs.Slot.{slotOf}
+use Rattle.machine_state.specs.declared.slots.Mode.{Mode}
+use Rattle.machine_state.specs.declared.slots.SlotName.{SlotName}
+use Rattle.machine_state.specs.declared.state.State.{State}
 use Rattle.run.specs.Run.{Run, Write, begun, runFor}
 
 -- ---- logs that say more

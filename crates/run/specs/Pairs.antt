@@ -6,8 +6,8 @@ use mathlib.Core.List.{List, [], _∷_, _++_}
 use lib.ListN.{length, replicate}
 use Rattle.log.specs.Log.{Log, logOf}
 use Rattle.log.specs.Validity.{validLog}
-use Rattle.state.specs.declared.slots.SlotName.{SlotName}
-use Rattle.state.specs.declared.state.State.{State}
+use Rattle.machine_state.specs.declared.slots.SlotName.{SlotName}
+use Rattle.machine_state.specs.declared.state.State.{State}
 use Rattle.run.specs.Run.{Run, Write, begun, runFor}
 use Rattle.run.specs.SlotRun.{sceneFor, slotAtEntry, stateWith}
 use Rattle.run.specs.MoreLog.{withRows, SaysMore, goneAt, Unfinished}

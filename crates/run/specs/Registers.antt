@@ -1,12 +1,12 @@
 -- The registers that a replay is given: ADDR and DATA of the slot, FLAGS_0, FLAGS_1 and HWSQ_ENABLE (01, "Other refusals").
 use Prim.Native.Nat.{ℕ}
 use mathlib.Core.Bool.{Bool}
-use Rattle.flags.specs.Flags.{flagsWord0, flagsWord1, flagsFromWords}
-use Rattle.flags.specs.declared.flags.Flags.{Flags}
-use Rattle.state.specs.Slot.{slotOf}
-use Rattle.state.specs.declared.slots.Slot.{Slot}
-use Rattle.state.specs.declared.slots.SlotName.{SlotName}
-use Rattle.state.specs.declared.state.State.{State}
+use Rattle.machine_flags.specs.Flags.{flagsWord0, flagsWord1, flagsFromWords}
+use Rattle.machine_flags.specs.declared.flags.Flags.{Flags}
+use Rattle.machine_state.specs.Slot.{slotOf}
+use Rattle.machine_state.specs.declared.slots.Slot.{Slot}
+use Rattle.machine_state.specs.declared.slots.SlotName.{SlotName}
+use Rattle.machine_state.specs.declared.state.State.{State}
 use Rattle.script.specs.Script.{Script}
 use Rattle.run.specs.SlotRun.{slotAtEntry}
 

@@ -9,16 +9,16 @@ use Rattle.families.specs.Family.{codeSize}
 use Rattle.refusals.specs.Number.{unreplayableNumber}
 use Rattle.refusals.specs.declared.refusals.Unreadable.{Unreadable}
 use Rattle.refusals.specs.declared.refusals.Unreplayable.{Unreplayable}
-use Rattle.waits.specs.Left.{leftOf}
+use Rattle.log_waits.specs.Left.{leftOf}
 use Rattle.log.specs.Log.{Log}
 use Rattle.log.specs.Validity.{validLog, logStart}
-use Rattle.flags.specs.Flags.{flagsWord0, flagsWord1}
-use Rattle.flags.specs.declared.flags.Flags.{Flags}
-use Rattle.state.specs.declared.slots.Mode.{Mode}
-use Rattle.state.specs.declared.slots.Slot.{Slot}
-use Rattle.state.specs.declared.slots.SlotName.{SlotName}
-use Rattle.state.specs.declared.state.State.{State}
-use Rattle.turn.specs.declared.turn.Effect.{Effect}
+use Rattle.machine_flags.specs.Flags.{flagsWord0, flagsWord1}
+use Rattle.machine_flags.specs.declared.flags.Flags.{Flags}
+use Rattle.machine_state.specs.declared.slots.Mode.{Mode}
+use Rattle.machine_state.specs.declared.slots.Slot.{Slot}
+use Rattle.machine_state.specs.declared.slots.SlotName.{SlotName}
+use Rattle.machine_state.specs.declared.state.State.{State}
+use Rattle.machine_slot.specs.declared.turn.Effect.{Effect}
 use Rattle.script.specs.Script.{Script}
 use Rattle.script.specs.Input.{scriptFits}
 use Rattle.run.specs.Run.{Run, Write, begun, nextStep, runFor}

@@ -4,11 +4,11 @@ use mathlib.Core.List.{List, [], _∷_, _++_}
 use Rattle.log.specs.Log.{Log}
 use Rattle.log.specs.Validity.{logStart}
 use Rattle.log.specs.declared.place.Place.{Place}
-use Rattle.machine.specs.Step.{stepOf}
-use Rattle.state.specs.declared.slots.SlotName.{SlotName}
-use Rattle.state.specs.declared.state.State.{State}
-use Rattle.machine.specs.declared.steps.Stepped.{Stepped}
-use Rattle.turn.specs.declared.turn.Effect.{Effect}
+use Rattle.machine_step.specs.Step.{stepOf}
+use Rattle.machine_state.specs.declared.slots.SlotName.{SlotName}
+use Rattle.machine_state.specs.declared.state.State.{State}
+use Rattle.machine_step.specs.declared.steps.Stepped.{Stepped}
+use Rattle.machine_slot.specs.declared.turn.Effect.{Effect}
 
 pub record Write : Type 0 where
   pub address : ℕ

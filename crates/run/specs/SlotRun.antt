@@ -8,16 +8,16 @@ use Rattle.isa.specs.declared.reader.Decoded.{Decoded}
 use Rattle.log.specs.Log.{Log}
 use Rattle.log.specs.Validity.{logStart}
 use Rattle.log.specs.declared.place.Place.{Place}
-use Rattle.fetch.specs.Fetch.{fetchOf}
-use Rattle.flags.specs.declared.flags.Flags.{Flags}
-use Rattle.state.specs.Slot.{hasSlot, isRunning, blankSlot, slotOf, withSlot}
-use Rattle.state.specs.declared.slots.Mode.{Mode}
-use Rattle.state.specs.declared.slots.Slot.{Slot}
-use Rattle.state.specs.declared.slots.SlotName.{SlotName}
-use Rattle.state.specs.declared.state.State.{State}
-use Rattle.turn.specs.Turn.{sameTurn, turnOf}
-use Rattle.turn.specs.declared.turn.Effect.{Effect}
-use Rattle.turn.specs.declared.turn.Turn.{Turn}
+use Rattle.isa_fetch.specs.Fetch.{fetchOf}
+use Rattle.machine_flags.specs.declared.flags.Flags.{Flags}
+use Rattle.machine_state.specs.Slot.{hasSlot, isRunning, blankSlot, slotOf, withSlot}
+use Rattle.machine_state.specs.declared.slots.Mode.{Mode}
+use Rattle.machine_state.specs.declared.slots.Slot.{Slot}
+use Rattle.machine_state.specs.declared.slots.SlotName.{SlotName}
+use Rattle.machine_state.specs.declared.state.State.{State}
+use Rattle.machine_slot.specs.Turn.{sameTurn, turnOf}
+use Rattle.machine_slot.specs.declared.turn.Effect.{Effect}
+use Rattle.machine_slot.specs.declared.turn.Turn.{Turn}
 use Rattle.script.specs.Script.{Script, scriptOf}
 use Rattle.run.specs.Run.{Run, Write, wroteBy, fetchedBy}
 

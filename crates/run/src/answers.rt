@@ -1,10 +1,10 @@
 // What the run of a slot answers, and what replay tells of it.
-use flags::Flags;
 use isa::CodeAddress;
 use isa::MmioAddress;
 use log::Place;
+use machine_flags::Flags;
+use machine_state::Slot;
 use refusals::Unreplayable;
-use state::Slot;
 
 // How a run ended.
 pub enum Ending {

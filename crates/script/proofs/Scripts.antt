@@ -12,9 +12,9 @@ use Rattle.isa.specs.declared.instructions.Instruction.{Instruction}
 use Rattle.isa.specs.declared.reader.Decoded.{Decoded}
 use Rattle.isa.proofs.Clocks.{wait-most}
 use Rattle.isa.proofs.Tests.{both-left, both-right, by-family-elim}
-use Rattle.fetch.proofs.Places.{fetch-inside, fetch-lies}
-use Rattle.actions.specs.Action.{actionOf}
-use Rattle.actions.specs.declared.actions.Action.{Action}
+use Rattle.isa_fetch.proofs.Places.{fetch-inside, fetch-lies}
+use Rattle.machine_actions.specs.Action.{actionOf}
+use Rattle.machine_actions.specs.declared.actions.Action.{Action}
 use Rattle.script.specs.Script.{Script, fetchAt}
 use Rattle.script.specs.Input.{marksPlain, scriptFits}
 

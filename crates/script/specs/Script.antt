@@ -2,7 +2,7 @@
 use Prim.Native.Nat.{ℕ}
 use mathlib.Core.List.{List}
 use Rattle.isa.specs.declared.reader.Decoded.{Decoded}
-use Rattle.fetch.specs.Fetch.{fetchOf}
+use Rattle.isa_fetch.specs.Fetch.{fetchOf}
 
 pub record Script : Type 0 where
   pub family : ℕ

@@ -1,7 +1,7 @@
 -- Assumes nothing.
 use mathlib.Core.Path.{sym, ap, _∙_}
 use borrow.Author.Needs.{needs}
-use Rattle.verdict.specs.declared.verdicts.Verdict.{Verdict}
+use Rattle.audit_verdict.specs.declared.verdicts.Verdict.{Verdict}
 use Rattle.capi_witness.specs.Showing.{toldOf}
 use Rattle.capi_witness.proofs.showing.shown_reply.Statement.{statement}
 use Rattle.capi_witness.proofs.showing.shown_reply.Tie as tie

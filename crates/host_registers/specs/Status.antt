@@ -1,0 +1,43 @@
+-- The register STATUS (01, "Host registers"; 004, "Script execution").
+use Prim.Native.Nat.{ℕ, _+_, _*_, _/_, _%_}
+use mathlib.Core.Bool.{Bool, true, false, cond, not, _&&_}
+use lib.Dec.{eqb}
+use Rattle.families.specs.Family.{unknownHangs}
+use Rattle.isa.specs.declared.addresses.CodeAddress.{CodeAddress}
+use Rattle.machine_state.specs.Slot.{hasSlot, isIdle}
+use Rattle.machine_state.specs.declared.slots.Mode.{Mode}
+use Rattle.machine_state.specs.declared.slots.Slot.{Slot}
+use Rattle.machine_state.specs.declared.slots.SlotName.{SlotName}
+use Rattle.machine_state.specs.declared.state.State.{State}
+use Rattle.host_registers.specs.Register.{isHigh}
+
+-- a bit of this weight, lit or not
+abbrev pub bitIf : Bool → ℕ → ℕ
+bitIf lit weight = cond lit weight 0
+
+abbrev pub isHung : Mode → Bool
+isHung Mode.Idle = false
+isHung Mode.Running = false
+isHung Mode.Waiting = false
+isHung Mode.Blocked = false
+isHung Mode.Hung = true
+
+-- bit 9 is of families 2 and 3
+abbrev pub showsHang : ℕ → Mode → Bool
+showsHang family mode = unknownHangs family && isHung mode
+
+-- bit 10 is of family 4
+abbrev pub showsBit8 : ℕ → ℕ → Bool
+showsBit8 family ip = isHigh family && eqb (ip / 256 % 2) 1
+
+-- bits 0 to 7 low IP, 8 executing, 9 hung (families 2 and 3), 10 bit 8 of IP (family 4)
+unfoldable pub slotStatus : ℕ → Slot → ℕ
+slotStatus family slot =
+    slot .ip .0 % 256 + bitIf (not (isIdle (slot .mode))) 256 + bitIf (showsHang family (slot .mode)) 512 + bitIf (showsBit8 family (slot .ip .0)) 1024
+
+-- slot A in the low half, slot B in the high half, which is 0 on family 4
+unfoldable pub statusWord : State → ℕ
+statusWord s =
+    cond (hasSlot (s .family) SlotName.B)
+    (slotStatus (s .family) (s .a) + 65536 * slotStatus (s .family) (s .b))
+    (slotStatus (s .family) (s .a))

@@ -1,0 +1,38 @@
+-- Starting and aborting (01, "Host registers"; 004, "Script execution").
+use Prim.Native.Nat.{ℕ, _/_, _%_}
+use mathlib.Core.Bool.{Bool, cond, _&&_}
+use lib.Dec.{eqb}
+use Rattle.isa.specs.declared.addresses.CodeAddress.{CodeAddress}
+use Rattle.isa.specs.declared.addresses.MmioAddress.{MmioAddress}
+use Rattle.machine_state.specs.Slot.{hasSlot, slotOf, withSlot}
+use Rattle.machine_flags.specs.declared.flags.Flags.{Flags}
+use Rattle.machine_state.specs.declared.slots.Mode.{Mode}
+use Rattle.machine_state.specs.declared.slots.Slot.{Slot}
+use Rattle.machine_state.specs.declared.slots.SlotName.{SlotName}
+use Rattle.machine_state.specs.declared.state.State.{State}
+use Rattle.host_registers.specs.Entry.{entryPoint}
+
+-- bit 0 starts, and aborts where it is clear
+abbrev pub isStart : ℕ → Bool
+isStart word = eqb (word % 2) 1
+
+-- bit 1 means slot A where it is set, and B where it is clear; a family with one slot ignores it
+abbrev pub slotNamed : ℕ → ℕ → SlotName
+slotNamed family word = cond (hasSlot family SlotName.B && eqb (word / 2 % 2) 0) SlotName.B SlotName.A
+
+-- a start sets IP; ADDR and DATA stay from script to script
+abbrev pub startedAt : Slot → ℕ → Slot
+startedAt slot entry = record { mode = Mode.Running; ip = record { 0 = entry }; addr = slot .addr; «data» = slot .«data» }
+
+-- an abort stops the slot and clears the hang; on an idle slot it does nothing
+abbrev pub aborted : Slot → Slot
+aborted slot = record { mode = Mode.Idle; ip = slot .ip; addr = slot .addr; «data» = slot .«data» }
+
+-- bits 2 and 3 choose the entry point of a start
+unfoldable pub afterTrigger : State → ℕ → State
+afterTrigger s word =
+    let name = slotNamed (s .family) word in
+    let slot = slotOf s name in
+    cond (isStart word)
+    (withSlot s name (startedAt slot (entryPoint (s .family) (s .entries) (s .«entries_high») (word / 4 % 4))) (s .flags))
+    (withSlot s name (aborted slot) (s .flags))

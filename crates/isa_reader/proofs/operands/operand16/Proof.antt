@@ -1,0 +1,11 @@
+-- Assumes nothing.
+use Rattle.isa.proofs.Bytes.{two}
+use borrow.Author.Needs.{needs}
+use Rattle.isa_reader.proofs.operands.operand16.Statement.{statement}
+use Rattle.isa_reader.proofs.operands.operand16.Tie as tie
+
+returns : tie.Need-returns
+returns c = simp (c .word16 .ensures, c .before .before .byte .ensures, c .before .byte2 .ensures) (two (c .before .before .before .before .args .bytes .now))
+
+pub operand16-spec : {M : Type 1} → statement M
+operand16-spec = tie.close (tie.spec (λ c κs. search needs) (λ c κs. search needs) (λ c κs. search needs) returns)

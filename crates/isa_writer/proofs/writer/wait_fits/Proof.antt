@@ -1,0 +1,13 @@
+-- Assumes nothing.
+use borrow.Author.Tests.{le-leb, lt-leb}
+use Rattle.isa_writer.proofs.writer.wait_fits.Statement.{statement}
+use Rattle.isa_writer.proofs.writer.wait_fits.Tie as tie
+
+returns : tie.Need-returns
+returns c = simp (le-leb _ _ (c .if1 .taken))
+
+returns-2 : tie.Need-returns-2
+returns-2 c = simp (lt-leb _ _ (c .if1 .left))
+
+pub wait-fits-spec : {M : Type 1} → statement M
+wait-fits-spec = tie.close (tie.spec returns returns-2)

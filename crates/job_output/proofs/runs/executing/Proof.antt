@@ -1,0 +1,19 @@
+-- Assumes nothing.
+use mathlib.Core.Path.{_≡_, sym, _∙_}
+use mathlib.Core.Bool.{true, false, not, _&&_}
+use Rattle.machine_state.specs.Slot.{hasSlot, isIdle}
+use Rattle.machine_state.specs.declared.slots.SlotName.{SlotName}
+use Rattle.machine_state.specs.declared.state.State.{State}
+use Rattle.job_output.proofs.ScriptLaws.{executing-a, executing-b}
+use borrow.Author.Needs.{needs}
+use Rattle.job_output.proofs.runs.executing.Statement.{statement}
+use Rattle.job_output.proofs.runs.executing.Tie as tie
+
+returns : tie.Need-returns
+returns c = λ s family a b. executing-a s family a b (sym (c .before .is-executing .ensures) ∙ c .if1 .taken)
+
+returns-2 : tie.Need-returns-2
+returns-2 c = λ s family a b. executing-b s family a b (sym (c .before .is-executing .ensures) ∙ c .if1 .left)
+
+pub executing-spec : {M : Type 1} → statement M
+executing-spec = tie.close (tie.spec (λ c κs. search needs) returns returns-2)

@@ -1,0 +1,42 @@
+-- Assumes nothing.
+use denote.Ref.{now}
+use Prim.Native.Nat.{ℕ}
+use mathlib.Core.Path.{_≡_, sym, _∙_}
+use Rattle.job_records.specs.Inside.{shapeNumber}
+use Rattle.job_records.proofs.KindTests.{shape-refused, end-own}
+use Rattle.machine_state.specs.Sequencer.{stateFrom}
+use borrow.Author.Needs.{needs}
+use Rattle.job_records.proofs.by_kind.read_end.Statement.{statement}
+use Rattle.job_records.proofs.by_kind.read_end.Tie as tie
+
+-- from the tests of its shape up to the start
+abbrev start : tie.After-some-executes → tie.Start
+start c = c .before .before .before .before .before
+
+returns : tie.Need-returns
+returns c =
+    let t = c .before in
+    let b = start t in
+    let number = t .before .shape-number .ensures in
+    λ code marks. number
+    ∙ shape-refused (now (b .args .rest)) (b .args .counts) 0 (b .pre) (λ z. c .if1 .taken (number ∙ z)) (stateFrom (b .args .sequencer) code marks)
+
+returns-2 : tie.Need-returns-2
+returns-2 c =
+    let e = c .before .before in
+    let t = e .before in
+    let b = start t in
+    let fine : shapeNumber (now (b .args .rest)) 0 (b .args .counts) ≡ 0 = sym (t .before .shape-number .ensures) ∙ e .if1 .left in
+    λ code marks. c .when2 .ensures ∙ simp (c .before .when .ensures, t .some-executes .ensures)
+    (sym (end-own (now (b .args .rest)) (b .args .counts) (b .pre) fine (stateFrom (b .args .sequencer) code marks)))
+
+pub read-end-spec : {M : Type 1} → statement M
+read-end-spec =
+    tie.close
+    (tie.spec
+    (λ c κs. search needs)
+    (λ c κs. search needs)
+    returns
+    (λ c κs. search needs)
+    (λ c κs. search needs)
+    returns-2)

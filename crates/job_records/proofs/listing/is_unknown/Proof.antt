@@ -1,0 +1,17 @@
+-- Assumes nothing.
+use borrow.Author.Tests.{eq-eqb, ne-eqb}
+use Rattle.job_records.specs.Refusals.{isUnknown}
+use borrow.Author.Needs.{needs}
+use Rattle.job_records.proofs.listing.is_unknown.Statement.{statement}
+use Rattle.job_records.proofs.listing.is_unknown.Tie as tie
+
+returns : tie.Need-returns
+unfolding isUnknown
+returns c = simp (eq-eqb _ _ (c .if1 .taken))
+
+returns-2 : tie.Need-returns-2
+unfolding isUnknown
+returns-2 c = simp (ne-eqb _ _ (c .before .if1 .left))
+
+pub is-unknown-spec : {M : Type 1} → statement M
+is-unknown-spec = tie.close (tie.spec returns returns-2)

@@ -1,0 +1,60 @@
+-- The kinds of record and their order (01, "A job, and one report whole").
+use Prim.Native.Nat.{ℕ}
+use mathlib.Core.Bool.{Bool, cond, not}
+use mathlib.Core.List.{List, [], _∷_}
+use lib.Dec.{ltb, eqb}
+use Rattle.log.specs.Validity.{maxRows}
+use Rattle.script.specs.Input.{maxRanges}
+use Rattle.job_records.specs.declared.contents.Counts.{Counts}
+use Rattle.job_records.specs.declared.kinds.Kind.{Kind}
+
+abbrev pub family : ℕ
+family = 0x04
+
+abbrev pub range : ℕ
+range = 0x03
+
+abbrev pub hostWrite : ℕ
+hostWrite = 0x02
+
+abbrev pub row : ℕ
+row = 0x01
+
+abbrev pub end : ℕ
+end = 0x00
+
+-- the most host writes of a job
+abbrev pub maxWrites : ℕ
+maxWrites = 512
+
+-- a row of the table of kinds
+pub record TableRow : Type 0 where
+  pub byte : ℕ
+  pub kind : Kind
+
+abbrev pub is : ℕ → ℕ → ℕ → ℕ → ℕ → TableRow
+is byte rank body most read = record { byte = byte; kind = record { rank = rank; body = body; most = most; read = read } }
+
+-- each kind, after these records: its byte, its place in the order, the length of its body, how many of it a job may have, and how many
+-- were read; what follows an end is no record
+abbrev pub kinds : Counts → List TableRow
+kinds counts =
+    is family 1 1 1 (counts .families)
+    ∷ is range 2 8 maxRanges (counts .ranges)
+    ∷ is hostWrite 3 8 maxWrites (counts .writes)
+    ∷ is row 4 16 maxRows (counts .rows)
+    ∷ is end 5 0 1 0
+    ∷ []
+
+-- a byte that is not in the table has no place in the order
+abbrev pub lookUp : ℕ → List TableRow → Kind
+lookUp byte [] = record { rank = 0; body = 0; most = 0; read = 0 }
+lookUp byte (entry ∷ table) = cond (eqb byte (entry .byte)) (entry .kind) (lookUp byte table)
+
+unfoldable pub kindOf : Counts → ℕ → Kind
+kindOf counts byte = lookUp byte (kinds counts)
+
+-- kinds come in just that order: the first record is of the first rank, and no record's rank is below the last one's; before the
+-- first record the last rank is 0
+unfoldable pub isOutOfOrder : ℕ → Kind → Bool
+isOutOfOrder last kind = cond (eqb last 0) (not (eqb (kind .rank) 1)) (ltb (kind .rank) last)

@@ -1,0 +1,86 @@
+-- Why a record is refused (01, "A job, and one report whole"). `rest` is the input from the record on; the end of input counts as a
+-- record, of which no byte is left.
+use Prim.Native.Nat.{ℕ, _+_}
+use mathlib.Core.Bool.{Bool, cond, not, _&&_, _||_}
+use mathlib.Core.List.{List, [], _∷_}
+use lib.Dec.{leb, ltb, eqb}
+use lib.ListN.{length}
+use Rattle.families.specs.Family.{knownFamily}
+use Rattle.log.specs.Validity.{clocksInRange}
+use Rattle.host_registers.specs.Access.{writeOf}
+use Rattle.machine_execution.specs.Execution.{someSlotExecutes}
+use Rattle.host_registers.specs.Promises.{outcomeNumber}
+use Rattle.machine_state.specs.declared.state.State.{State}
+use Rattle.job_records.specs.Records.{family, range, hostWrite, row, end, kindOf, isOutOfOrder}
+use Rattle.job_records.specs.Words.{byteAt, wordAt, longAt}
+use Rattle.job_records.specs.declared.contents.Counts.{Counts}
+use Rattle.job_records.specs.declared.kinds.Kind.{Kind}
+
+-- unknown kind or input ended without 00
+unfoldable pub isUnknown : List ℕ → Kind → Bool
+isUnknown rest kind = eqb (length rest) 0 || eqb (kind .rank) 0
+
+-- body cut short
+unfoldable pub isCutShort : List ℕ → Kind → Bool
+isCutShort rest kind = ltb (length rest) (1 + kind .body)
+
+-- too many of one kind
+unfoldable pub isTooMany : Kind → Bool
+isTooMany kind = leb (kind .most) (kind .read)
+
+-- bad family
+unfoldable pub isBadFamily : List ℕ → Bool
+isBadFamily rest = eqb (byteAt rest 0) family && not (knownFamily (byteAt rest 1))
+
+-- first above last
+unfoldable pub isBadRange : List ℕ → Bool
+isBadRange rest = eqb (byteAt rest 0) range && ltb (wordAt rest 5) (wordAt rest 1)
+
+-- what the machine says of a host write: 27 not a writable register of this family, 28 a slot executing; 0 where it takes it
+unfoldable pub writeNumber : List ℕ → State → ℕ
+writeNumber rest s = cond (eqb (byteAt rest 0) hostWrite) (outcomeNumber (writeOf s (record { 0 = wordAt rest 1 }) (wordAt rest 5) .outcome)) 0
+
+-- clocks out of range
+unfoldable pub isBadRow : List ℕ → Bool
+isBadRow rest = eqb (byteAt rest 0) row && not (clocksInRange (longAt rest 1))
+
+-- bytes after end
+unfoldable pub hasBytesAfter : List ℕ → Bool
+hasBytesAfter rest = eqb (byteAt rest 0) end && ltb 1 (length rest)
+
+-- at end, no slot executing
+unfoldable pub endsIdle : List ℕ → State → Bool
+endsIdle rest s = eqb (byteAt rest 0) end && not (someSlotExecutes s)
+
+-- a test that a record may fail, and the refusal's number
+pub record Test : Type 0 where
+  pub fails : Bool
+  pub number : ℕ
+
+abbrev pub when : Bool → ℕ → Test
+when fails number = record { fails = fails; number = number }
+
+-- one record with several refusals: the first in the listing; 0 where there is none
+abbrev pub firstOf : List Test → ℕ
+firstOf [] = 0
+firstOf (test ∷ later) = cond (test .fails) (test .number) (firstOf later)
+
+-- 01's listing, in its order
+abbrev pub listing : List ℕ → Counts → State → List Test
+listing rest counts s =
+    let kind = kindOf counts (byteAt rest 0) in
+    when (isUnknown rest kind) 21
+    ∷ when (isCutShort rest kind) 20
+    ∷ when (isOutOfOrder (counts .rank) kind) 22
+    ∷ when (isTooMany kind) 23
+    ∷ when (isBadFamily rest) 25
+    ∷ when (isBadRange rest) 26
+    ∷ when (eqb (writeNumber rest s) 27) 27
+    ∷ when (eqb (writeNumber rest s) 28) 28
+    ∷ when (isBadRow rest) 30
+    ∷ when (hasBytesAfter rest) 24
+    ∷ when (endsIdle rest s) 32
+    ∷ []
+
+unfoldable pub refusalOf : List ℕ → Counts → State → ℕ
+refusalOf rest counts s = firstOf (listing rest counts s)

@@ -1,0 +1,66 @@
+-- The report on a job, whole (01, "A job, and one report whole").
+use Prim.Native.Nat.{ℕ, _≤_}
+use mathlib.Core.Path.{_≡_}
+use mathlib.Core.Bool.{cond}
+use mathlib.Core.List.{List, _++_}
+use lib.Dec.{eqb}
+use lib.ListN.{length, take, drop}
+use Rattle.isa.specs.declared.addresses.CodeAddress.{CodeAddress}
+use Rattle.refusals.specs.Number.{faultNumber}
+use Rattle.refusals.specs.declared.refusals.Fault.{Fault}
+use Rattle.audit_verdict.specs.declared.verdicts.Verdict.{Verdict}
+use Rattle.run.specs.Replay.{endingOf, progressOf}
+use Rattle.run.specs.declared.answers.Progress.{Progress}
+use Rattle.machine_execution.specs.Execution.{executingSlot}
+use Rattle.machine_state.specs.Slot.{slotOf, withSlot}
+use Rattle.machine_state.specs.declared.state.State.{State}
+use Rattle.job_records.specs.Job.{knownOf}
+use Rattle.job_records.specs.Reader.{readOf}
+use Rattle.job_records.specs.declared.contents.Job.{Job}
+use Rattle.job_records.specs.declared.jobs.JobRead.{JobRead}
+use Rattle.job_report.specs.Lines.{refusedLine, familyLine, faultLine, passLine, writeLines, rowLines, endLine, statusLine}
+use Rattle.job_report.specs.Script.{verdictOf, jobRun, stepRun, statusOf}
+
+-- how a run ended, and the status then: the executing slot and the flags are as the run left them
+abbrev pub lastLines : State → Progress → List ℕ
+lastLines s last = endLine (endingOf (last .slot .mode)) (last .place) ++ statusLine (statusOf (withSlot s (executingSlot s) (last .slot) (last .flags)))
+
+-- of a run: its writes, a line for each row, the end, the status
+unfoldable pub runLines : Job → List ℕ
+runLines j = writeLines (jobRun j .writes) ++ rowLines 0 (knownOf j) ++ lastLines (j .state) (progressOf (jobRun j))
+
+-- a refused script has the verdict alone; a passed one is then run
+abbrev pub verdictLines : Job → Verdict → List ℕ
+verdictLines j (Verdict.Pass place count writes clocks) = passLine (place .0) count writes clocks ++ runLines j
+verdictLines j (Verdict.Fault fault place) = faultLine (faultNumber fault) (place .0)
+
+unfoldable pub jobLines : Job → List ℕ
+jobLines j = familyLine (j .state .family) ++ verdictLines j (verdictOf j)
+
+-- a refused job prints only that
+unfoldable pub reportOf : List ℕ → List ℕ
+reportOf bytes = let read = readOf bytes in cond (eqb (read .number) 0) (jobLines (read .job)) (refusedLine (read .number) (read .at))
+
+-- what the machine's own steps give of a run: their writes, how the slot ended and where, and STATUS in the state that the last one returned
+unfoldable pub stepLines : Job → List ℕ
+stepLines j =
+    let r = stepRun j in
+    let ending = endingOf (slotOf (r .state) (executingSlot (j .state)) .mode) in
+    writeLines (r .writes) ++ rowLines 0 (knownOf j) ++ (endLine ending (r .place) ++ statusLine (statusOf (r .state)))
+
+-- a job without fault, and its script passed
+pub record Passed (read : JobRead) (place : CodeAddress) (count writes clocks : ℕ) : Type 0 where
+  pub faultless : read .number ≡ 0
+  pub passes : verdictOf (read .job) ≡ Verdict.Pass place count writes clocks
+
+-- what is promised of the answer, and of the lent bytes, old and new: the report and then as lent
+pub record Reports (bytes old new : List ℕ) (answer : ℕ) : Type 0 where
+  pub answered : answer ≡ length (reportOf bytes)
+  pub contents : new ≡ reportOf bytes ++ drop (length (reportOf bytes)) old
+  -- so many of the lent bytes can be handed on as a part
+  pub counted : (answer ≤ length new) × (answer ≡ length (take answer new))
+  -- of every job without fault, whatever HWSQ_ENABLE and the flags are, the run is the machine's own
+  pub follows : readOf bytes .number ≡ 0 → runLines (readOf bytes .job) ≡ stepLines (readOf bytes .job)
+  -- and of a passed script the lent bytes tell that run
+  pub tells : (place : CodeAddress) (count writes clocks : ℕ) → Passed (readOf bytes) place count writes clocks
+      → (let j = readOf bytes .job in take answer new ≡ familyLine (j .state .family) ++ (passLine (place .0) count writes clocks ++ stepLines j))

@@ -1,0 +1,53 @@
+-- The flags, and whether memory is paused (01, "Steps and time" and "Host registers"; 004, "Flags").
+use Prim.Native.Nat.{ℕ, _+_, _*_, _/_, _%_, _^_}
+use mathlib.Core.Bool.{Bool, cond, _&&_}
+use lib.Bits.{bitAnd, bitOr, bitXor}
+use lib.Dec.{ltb, eqb}
+use Rattle.families.specs.Family.{pausesMemory}
+use Rattle.machine_flags.specs.declared.flags.Change.{Change}
+use Rattle.machine_flags.specs.declared.flags.Flags.{Flags}
+
+abbrev pub setBit : ℕ → ℕ → ℕ
+setBit n word = bitOr word (2 ^ n)
+
+abbrev pub clearBit : ℕ → ℕ → ℕ
+clearBit n word = bitXor word (bitAnd word (2 ^ n))
+
+-- unset clears a flag's enable and keeps its value
+unfoldable pub enablesAfter : Change → ℕ → ℕ → ℕ
+enablesAfter Change.Unset flag enables = clearBit flag enables
+enablesAfter Change.Set1 flag enables = setBit flag enables
+enablesAfter Change.Set0 flag enables = setBit flag enables
+
+unfoldable pub valuesAfter : Change → ℕ → ℕ → ℕ
+valuesAfter Change.Unset flag values = values
+valuesAfter Change.Set1 flag values = setBit flag values
+valuesAfter Change.Set0 flag values = clearBit flag values
+
+-- there is no flag above 31
+abbrev pub changedFlags : Change → ℕ → Flags → Flags
+changedFlags change flag flags =
+    cond (ltb flag 32)
+    (record { values = valuesAfter change flag (flags .values); enables = enablesAfter change flag (flags .enables) })
+    flags
+
+-- a flag is at override 1 where its enable and its value are 1
+unfoldable pub overrides1 : ℕ → Flags → Bool
+overrides1 n flags = eqb (flags .enables / 2 ^ n % 2) 1 && eqb (flags .values / 2 ^ n % 2) 1
+
+-- memory is paused while flag 16 is at override 1, on families 2 to 4
+abbrev pub pausedOf : ℕ → Flags → Bool
+pausedOf family flags = pausesMemory family && overrides1 16 flags
+
+-- FLAGS_0 and FLAGS_1: values in bits 0 to 15, enables in bits 16 to 31, of flags 0 to 15 and 16 to 31
+abbrev pub flagsWord0 : Flags → ℕ
+flagsWord0 flags = flags .values % 65536 + 65536 * (flags .enables % 65536)
+
+abbrev pub flagsWord1 : Flags → ℕ
+flagsWord1 flags = flags .values / 65536 + 65536 * (flags .enables / 65536)
+
+abbrev pub flagsFromWords : ℕ → ℕ → Flags
+flagsFromWords word0 word1 = record {
+  values = word0 % 65536 + 65536 * (word1 % 65536);
+  enables = word0 / 65536 + 65536 * (word1 / 65536);
+}

@@ -1,0 +1,107 @@
+-- A slot that runs takes the turn that its fetch asks for. Assumes nothing.
+use denote.Ref.{now}
+use mathlib.Core.Path.{_≡_, refl, sym, ap, _∙_}
+use native.Mathlib.Omega.{arith}
+use borrow.Author.Needs.{needs}
+use borrow.Author.Tests.{not-true, not-false}
+use Rattle.isa.specs.declared.addresses.CodeAddress.{CodeAddress}
+use Rattle.isa.specs.declared.reader.Decoded.{Decoded}
+use Rattle.isa_fetch.specs.Fetch.{fetchOf, reasonOf}
+use Rattle.isa_fetch.proofs.Places.{ram-small}
+use Rattle.log.specs.Log.{Log, logOf}
+use Rattle.machine_state.specs.declared.slots.Slot.{Slot}
+use Rattle.machine_slot.specs.Turn.{turnOf}
+use Rattle.machine_slot.specs.declared.turn.Turn.{Turn}
+use Rattle.machine_step.specs.Step.{afterTurn, advanceOf}
+use Rattle.machine_step.proofs.StepLaws.{advance-still, advance-turn}
+use Rattle.machine_step.proofs.TakenTurns.{turn-unfetched, turn-performed}
+use Rattle.machine_step.proofs.steps.advance.Statement.{statement}
+use Rattle.machine_step.proofs.steps.advance.Tie as tie
+
+returns : tie.Need-returns
+returns c =
+    let ran = c .before .before in
+    let slot = ran .before .slot-of in
+    c .unmoved .ensures ∙ advance-still _ _ _ _ (slot .result) (slot .ensures) (sym (ran .can-run .ensures) ∙ not-true _ (c .before .if1 .taken))
+
+-- a slot that runs, and what it fetched
+module _ (f : tie.After-fetch) where
+  abbrev runs : tie.Else1
+  runs = let flags = f .before .before .before in flags .before .before .before .before
+
+  abbrev entered : tie.Start
+  entered = let named = runs .before .before in named .before .before .before .before
+
+  abbrev slot : Slot
+  slot = runs .before .before .slot-of .result
+
+  abbrev log : Log
+  log = let a = entered .args in logOf (now (a .clocks)) (now (a .known)) (now (a .values))
+
+  abbrev fetched : Decoded
+  fetched = let s = entered .args .state in fetchOf (s .family) (s .code) (s .marks) (slot .ip .0)
+
+  -- the turn that its fetch asks for is the step
+  turned : (t : Turn) → (let s = entered .args .state in t ≡ turnOf (s .family) (s .enable) slot (s .flags) log (entered .args .at) fetched)
+      → (let a = entered .args in afterTurn (a .state) (a .name) t ≡ advanceOf (a .state) (a .name) log (a .at))
+  turned t e =
+      advance-turn _ _ _ _ slot (runs .before .before .slot-of .ensures) (sym (runs .before .can-run .ensures) ∙ not-false _ (runs .if1 .left)) fetched refl t e
+
+returns-2 : tie.Need-returns-2
+returns-2 c =
+    let why = c .before .before .before in
+    let told = why .before .enum-told .given in
+    let f = why .before .before .before in
+    let s = entered f .args .state in
+    let at : fetched f ≡ Decoded.Refused (told .0 .0) = sym (f .fetch .ensures .answered) ∙ told .1 in
+    let turn = c .before .unfetched .ensures
+    ∙ turn-unfetched (s .family) (s .code) (s .marks) (s .enable) (slot f) (s .flags) (log f) (entered f .args .at) (told .0 .0) at
+    (c .before .before .past-opcode .result .0) (ap (λ (p : CodeAddress). p .0) (c .before .before .past-opcode .ensures))
+    (why .reason-of .result) (why .reason-of .ensures ∙ ap reasonOf (told .1)) in
+    c .after-turn .ensures ∙ turned f (c .before .unfetched .result) turn
+
+add-next : tie.Need-add-t29
+add-next c =
+    let found = c .before .before .before .before in
+    let f = found .before .before in
+    let s = entered f .args .state in
+    let inside = rw (found .found .given .1) at (f .fetch .ensures .inside) in
+    omega (arith, inside, ram-small (s .family) (s .code))
+
+returns-3 : tie.Need-returns-3
+returns-3 c =
+    let time = c .before .before .before in
+    let acts = time .before in
+    let told = acts .before .before .found .given in
+    let f = acts .before .before .before .before in
+    let s = entered f .args .state in
+    let at : fetched f ≡ Decoded.Instruction (told .0 .0) (told .0 .1 .0) = sym (f .fetch .ensures .answered) ∙ told .1 in
+    let turn = c .before .perform .ensures
+    ∙ turn-performed (s .family) (s .code) (s .marks) (s .enable) (slot f) (s .flags) (log f) (entered f .args .at) (told .0 .0) (told .0 .1 .0) at
+    (acts .action-of .result) (acts .action-of .ensures) (time .elapse .result) (time .elapse .ensures) in
+    c .after-turn2 .ensures ∙ turned f (c .before .perform .result) turn
+
+pub advance-spec : {M : Type 1} → statement M
+advance-spec =
+    tie.close
+    (tie.spec
+    (λ c κs. search needs)
+    (λ c κs. search needs)
+    (λ c κs. search needs)
+    returns
+    (λ c. search needs)
+    (λ c. search needs)
+    (λ c κs. search needs)
+    (λ c. search needs)
+    (λ c. search needs)
+    (λ c κs. search needs)
+    (λ c κs. search needs)
+    (λ c κs. search needs)
+    (λ c κs. search needs)
+    returns-2
+    (λ c κs. search needs)
+    (λ c κs. search needs)
+    add-next
+    (λ c κs. search needs)
+    (λ c κs. search needs)
+    returns-3)

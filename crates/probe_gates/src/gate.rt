@@ -1,0 +1,52 @@
+// From volts to a reading.
+use probe_floats::is_finite;
+ghost use mathlib.Core.Path.{_≡_};
+ghost use Rattle.probe_gates.specs.Reading.{Reads, atLevels};
+
+// Levels are in volts.
+pub enum Gate {
+    Normal { low: f32, high: f32 },
+    Inverted { low: f32, high: f32 },
+    Dead,
+}
+
+// What a probe says of its event. Missing is no reading, and not 0.
+pub enum Reading {
+    Zero,
+    One,
+    Missing,
+}
+
+impl Gate {
+    // A dead gate, and volts that are NaN or infinite, are no reading.
+    pub fn read(self, volts: f32) -> Reading
+        ensures { λ r. ⌜ Reads self volts r ⌝ }
+    {
+        if is_finite(volts) {
+            match self {
+                Gate::Normal { low, high } => {
+                    at_levels(low, high, volts, Reading::Zero, Reading::One)
+                }
+                Gate::Inverted { low, high } => {
+                    at_levels(low, high, volts, Reading::One, Reading::Zero)
+                }
+                Gate::Dead => Reading::Missing,
+            }
+        } else {
+            Reading::Missing
+        }
+    }
+}
+
+// At or below low, at or above high, or between.
+fn at_levels(low: f32, high: f32, volts: f32, below: Reading, above: Reading) -> Reading
+    ensures { λ r. ⌜ r ≡ atLevels low high volts below above ⌝ }
+{
+    if volts <= low {
+        below
+    } else if high <= volts {
+        above
+    } else {
+        Reading::Missing
+    }
+}
