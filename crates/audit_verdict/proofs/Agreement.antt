@@ -12,7 +12,7 @@ use Rattle.log.specs.Log.{Log}
 use Rattle.log.specs.Validity.{validPlace}
 use Rattle.machine_flags.specs.Flags.{overrides1, pausedOf}
 use Rattle.machine_time.specs.Time.{elapsedOf}
-use Rattle.machine_slot.specs.Turn.{dataAfter, flagsAfter, effectOf, performOf}
+use Rattle.machine_slot.specs.SlotStep.{dataAfter, flagsAfter, effectOf, performOf}
 use Rattle.machine_actions.specs.declared.actions.Action.{Action}
 use Rattle.machine_actions.specs.declared.actions.Part.{Part}
 use Rattle.machine_flags.specs.declared.flags.Flags.{Flags}
@@ -21,7 +21,7 @@ use Rattle.machine_time.specs.declared.elapsed.Elapsed.{Elapsed}
 use Rattle.audit_verdict.specs.Auditor.{isSet1, loadsBoth, knownData, knownPaused, pokeCount, knowNext}
 use Rattle.audit_verdict.specs.Demand3.{AllListed}
 use Rattle.run.specs.Run.{Write, wroteBy}
-use Rattle.run.specs.SlotRun.{SlotRun, nextTurn}
+use Rattle.run.specs.SlotRun.{SlotRun, nextSlotStep}
 use Rattle.audit_verdict.specs.declared.verdicts.Knowledge.{Knowledge}
 use Rattle.script.specs.Script.{Script}
 use Rattle.script.proofs.Scripts.{Formed, Reads}
@@ -102,7 +102,7 @@ module _ {x : Script} {ranges : List ℕ} (log : Log) {addr word p n : ℕ} {k :
   lapsed : Lapse (log .clocks) action (r .place) elapsed
   lapsed = lapse log action (r .place)
 
-  step : nextTurn (sceneUnder x log) r ≡ performOf true (r .slot) (r .flags) action n elapsed
+  step : nextSlotStep (sceneUnder x log) r ≡ performOf true (r .slot) (r .flags) action n elapsed
   step = performs x true log (g .going) e
 
   pub goes-on : elapsed .finished ≡ true → Agree x ranges addr word (p + n) (knowNext action k) (next (sceneUnder x log) r)

@@ -14,12 +14,12 @@ use Rattle.log.proofs.ValidLaws.{valid-row-start}
 use Rattle.machine_actions.specs.declared.actions.Action.{Action}
 use Rattle.machine_state.specs.Slot.{slotOf}
 use Rattle.machine_state.specs.declared.slots.SlotName.{SlotName}
-use Rattle.machine_slot.specs.Turn.{effectOf, performOf}
+use Rattle.machine_slot.specs.SlotStep.{effectOf, performOf}
 use Rattle.script.specs.Script.{Script}
 use Rattle.script.specs.Input.{scriptFits, rangesFit, inputFits}
 use Rattle.script.proofs.Scripts.{fits-script, Auditable}
 use Rattle.run.specs.Run.{Run, begun, nextStep, runFor}
-use Rattle.run.specs.SlotRun.{SlotRun, nextTurn, slotRunOf}
+use Rattle.run.specs.SlotRun.{SlotRun, nextSlotStep, slotRunOf}
 use Rattle.run.proofs.MoreLog.{rows-added, readings-filled}
 use Rattle.audit_verdict.specs.Auditor.{verdictNumber, faultAt, knowNothing, walkOf, auditOf, auditNumber}
 use Rattle.audit_verdict.specs.Demand3.{Orderly, Safe, VerdictMeans, Demand3}
@@ -50,7 +50,7 @@ orderly-effect Action.Exit addr word = tt
 -- ---- a state's run, from what it shows of the slot
 
 module _ {x : Script} {ranges : List ℕ} {q : ℕ} {l : Knowledge} (unpaused : (pausesMemory (x .family) && l .paused) ≡ false) (name : SlotName) (r : Run) where
-  safe-in : (log : Log) (n : ℕ) → nextStep name log r .effect ≡ nextTurn (sceneUnder x log) (slotRunOf name r) .effect
+  safe-in : (log : Log) (n : ℕ) → nextStep name log r .effect ≡ nextSlotStep (sceneUnder x log) (slotRunOf name r) .effect
       → Stands x ranges log q l n (slotRunOf name r) → Safe x ranges name q (l .count + 1) (l .writes) (l .clocks) log n r
   unfolding performOf
   safe-in log n does (goes {action = action} e g h) = record {
@@ -82,7 +82,7 @@ module _ (x : Script) (ranges : List ℕ) (fit : Auditable x) (fits-so : scriptF
   ended {q} {k} w (at-exit n e unpaused) = record {
     safe = λ name s start log valid m.
         let same = slot-follows start (fit .fits) log valid m in
-        let does = effect-follows start (fit .fits) log valid m ∙ ap (λ (r : SlotRun). nextTurn (sceneUnder x log) r .effect) (sym same) in
+        let does = effect-follows start (fit .fits) log valid m ∙ ap (λ (r : SlotRun). nextSlotStep (sceneUnder x log) r .effect) (sym same) in
         let stands = sound x ranges log e valid w (begun-agrees start) (valid-row-start log valid 0 (omega arith)) m m (omega arith) in
         safe-in unpaused name (runFor name log m (begun s)) log m does (subst (Stands x ranges log q k m) (sym same) stands);
     same-writes = λ name name′ s s′ start start′ log valid m.

@@ -15,7 +15,7 @@ use Rattle.machine_state.specs.declared.slots.Mode.{Mode}
 use Rattle.machine_state.specs.declared.slots.SlotName.{SlotName}
 use Rattle.machine_state.specs.declared.state.State.{State}
 use Rattle.machine_time.specs.Time.{elapsedOf}
-use Rattle.machine_slot.specs.Turn.{modeAfter}
+use Rattle.machine_slot.specs.SlotStep.{modeAfter}
 use Rattle.run.specs.SlotRun.{Scene, SlotRun, scriptScene, slotRunFor, slotAtEntry, slotRunOf, Holds}
 use Rattle.run.specs.Replay.{fullSteps, fullSlotRun, fullRun, endingOf}
 use Rattle.run.proofs.InState.{run-back, full-follows}

@@ -7,7 +7,7 @@ use Rattle.families.specs.Family.{pausesMemory}
 use Rattle.isa.specs.declared.addresses.MmioAddress.{MmioAddress}
 use Rattle.isa.proofs.Tests.{cond-elim}
 use Rattle.machine_actions.specs.Action.{mergeOf}
-use Rattle.machine_slot.specs.Turn.{modeAfter, ipAfter, addrAfter, effectOf}
+use Rattle.machine_slot.specs.SlotStep.{modeAfter, ipAfter, addrAfter, effectOf}
 use Rattle.machine_actions.specs.declared.actions.Action.{Action}
 use Rattle.machine_actions.specs.declared.actions.Part.{Part}
 use Rattle.machine_state.specs.declared.slots.Mode.{Mode}
@@ -45,7 +45,8 @@ module _ (family : ℕ) (ranges : List ℕ) where
     pub addr : (start addr : ℕ) → addr ≡ heldAddr (k .addr) start → addrAfter action addr ≡ heldAddr (knownAddr action (k .addr)) start
     pub listed : (start addr word : ℕ) → addr ≡ heldAddr (k .addr) start → AllListed ranges (wroteBy (effectOf action true addr word))
     pub event : Releasable action
-    pub writes : (start start′ addr addr′ word word′ : ℕ) → addr ≡ heldAddr (k .addr) start → addr′ ≡ heldAddr (k .addr) start′ → (k .«data» ≡ true → word ≡ word′)
+    pub writes : (start start′ addr addr′ word word′ : ℕ) → addr ≡ heldAddr (k .addr) start → addr′ ≡ heldAddr (k .addr) start′ → (k .«data» ≡ true
+        → word ≡ word′)
         → wroteBy (effectOf action true addr word) ≡ wroteBy (effectOf action true addr′ word′)
 
   -- the action that a fault blames, and for what
@@ -56,7 +57,8 @@ module _ (family : ℕ) (ranges : List ℕ) where
   Blame action k Fault.NoAddress = (word : ℕ) × (action ≡ Action.Poke Part.Low word) × (k .addr ≡ KnownAddress.Unset)
   Blame action k Fault.HalfData = (part : Part) × (word : ℕ) × (action ≡ Action.Poke part word) × (k .«data» ≡ false)
   Blame action k Fault.Outside =
-      (part : Part) × (word : ℕ) × (address : MmioAddress) × (action ≡ Action.Poke part word) × (targetOf part word (k .addr) ≡ KnownAddress.At address) × (listedIn ranges (address .0) ≡ false)
+      (part : Part) × (word : ℕ) × (address : MmioAddress) × (action ≡ Action.Poke part word) × (targetOf part word (k .addr) ≡ KnownAddress.At address)
+      × (listedIn ranges (address .0) ≡ false)
   Blame action k Fault.Unreleased = (event : ℕ) × (value : ℕ) × (action ≡ Action.Ewait event value) × (canRelease event value ≡ false)
   Blame action k Fault.Paused = (action ≡ Action.Exit) × ((pausesMemory family && k .paused) ≡ true)
   Blame action k Fault.Input = ⊥
@@ -67,7 +69,8 @@ module _ (family : ℕ) (ranges : List ℕ) where
   Why action k (Judgement.Bad fault) = Blame action k fault
 
   -- what is to be shown of each judgement
-  outside : (part : Part) (word : ℕ) (k : Knowledge) (address : MmioAddress) → targetOf part word (k .addr) ≡ KnownAddress.At address → listedIn ranges (address .0) ≡ false
+  outside : (part : Part) (word : ℕ) (k : Knowledge) (address : MmioAddress) → targetOf part word (k .addr) ≡ KnownAddress.At address
+      → listedIn ranges (address .0) ≡ false
       → Blame (Action.Poke part word) k Fault.Outside
   outside part word k address t l = (part, word, address, refl, t, l)
 
@@ -105,14 +108,42 @@ module _ (family : ℕ) (ranges : List ℕ) where
 
   pub explain : (action : Action) (k : Knowledge) → Why action k (judgeOf family ranges action k)
   explain (Action.Wait n) k =
-      record { goes = refl; moves = λ at next. refl; addr = λ start addr e. e; listed = λ start addr word e. tt; event = λ event value q. never (cc); writes = λ start start′ addr addr′ word word′ e e′ same. refl }
+      record {
+        goes = refl;
+        moves = λ at next. refl;
+        addr = λ start addr e. e;
+        listed = λ start addr word e. tt;
+        event = λ event value q. never (cc);
+        writes = λ start start′ addr addr′ word word′ e e′ same. refl;
+      }
   explain (Action.Ewait event value) k =
       cond-elim (Why (Action.Ewait event value) k) (canRelease event value)
-      (λ c. record { goes = refl; moves = λ at next. refl; addr = λ start addr e. e; listed = λ start addr word e. tt; event = λ event′ value′ q. cc; writes = λ start start′ addr addr′ word word′ e e′ same. refl })
+      (λ c. record {
+        goes = refl;
+        moves = λ at next. refl;
+        addr = λ start addr e. e;
+        listed = λ start addr word e. tt;
+        event = λ event′ value′ q. cc;
+        writes = λ start start′ addr addr′ word word′ e e′ same. refl;
+      })
       (λ c. unreleased event value k c)
   explain (Action.Flag change flag) k =
-      record { goes = refl; moves = λ at next. refl; addr = λ start addr e. e; listed = λ start addr word e. tt; event = λ event value q. never (cc); writes = λ start start′ addr addr′ word word′ e e′ same. refl }
+      record {
+        goes = refl;
+        moves = λ at next. refl;
+        addr = λ start addr e. e;
+        listed = λ start addr word e. tt;
+        event = λ event value q. never (cc);
+        writes = λ start start′ addr addr′ word word′ e e′ same. refl;
+      }
   explain (Action.Load part word) k =
-      record { goes = refl; moves = λ at next. refl; addr = λ start addr e. e; listed = λ start addr word e. tt; event = λ event value q. never (cc); writes = λ start start′ addr addr′ word word′ e e′ same. refl }
+      record {
+        goes = refl;
+        moves = λ at next. refl;
+        addr = λ start addr e. e;
+        listed = λ start addr word e. tt;
+        event = λ event value q. never (cc);
+        writes = λ start start′ addr addr′ word word′ e e′ same. refl;
+      }
   explain (Action.Poke part word) k = why-poke part word k (targetOf part word (k .addr)) refl _ refl
   explain Action.Exit k = cond-elim (Why Action.Exit k) (pausesMemory family && k .paused) (λ e. exits-paused k e) (λ e. exits k e)

@@ -15,11 +15,11 @@ use Rattle.log.specs.declared.place.Place.{Place}
 use Rattle.log.proofs.ValidLaws.{row-within}
 use Rattle.log_waits.proofs.WaitLaws.{cut-at-end}
 use Rattle.machine_time.specs.Time.{elapsedOf, afterEwait}
-use Rattle.machine_slot.specs.Turn.{modeAfter, effectOf}
+use Rattle.machine_slot.specs.SlotStep.{modeAfter, effectOf}
 use Rattle.machine_actions.specs.declared.actions.Action.{Action}
 use Rattle.machine_state.specs.declared.slots.Mode.{Mode}
 use Rattle.machine_time.specs.declared.elapsed.Elapsed.{Elapsed}
-use Rattle.machine_slot.specs.declared.turn.Effect.{Effect}
+use Rattle.machine_slot.specs.declared.slot_steps.Effect.{Effect}
 use Rattle.audit_verdict.specs.Auditor.{waitLength}
 use Rattle.audit_verdict.proofs.Cases.{never}
 

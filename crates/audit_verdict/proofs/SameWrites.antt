@@ -12,7 +12,7 @@ use Rattle.machine_actions.specs.declared.actions.Part.{Part}
 use Rattle.machine_state.specs.Slot.{isRunning}
 use Rattle.machine_state.specs.declared.slots.Mode.{Mode}
 use Rattle.machine_time.specs.Time.{elapsedOf}
-use Rattle.machine_slot.specs.Turn.{dataAfter, effectOf, performOf}
+use Rattle.machine_slot.specs.SlotStep.{dataAfter, effectOf, performOf}
 use Rattle.run.specs.Run.{wroteBy}
 use Rattle.run.specs.SlotRun.{Scene, SlotRun, slotRunFor}
 use Rattle.script.specs.Script.{Script}
@@ -62,7 +62,7 @@ module _ (x : Script) (ranges : List ℕ) (log : Log) where
         held = word-same action (k .«data») (r .slot .«data») (r′ .slot .«data») (s .held);
       })
 
-  -- two runs that no turn moves any more
+  -- two runs that no step moves any more
   rest : {mode : Mode} → isRunning mode ≡ false → (m : ℕ) (r r′ : SlotRun) → r .slot .mode ≡ mode → r′ .slot .mode ≡ mode → r .writes ≡ r′ .writes
       → slotRunFor scene m r .writes ≡ slotRunFor scene m r′ .writes
   rest still m r r′ e e′ h = rw (run-rests scene r (ap isRunning e ∙ still) m, run-rests scene r′ (ap isRunning e′ ∙ still) m) h

@@ -23,17 +23,17 @@ use Rattle.machine_actions.specs.Action.{mergeOf}
 use Rattle.machine_state.specs.Slot.{slotOf}
 use Rattle.machine_state.proofs.SlotLaws.{slot-back}
 use Rattle.machine_time.specs.Time.{afterEwait}
-use Rattle.machine_slot.specs.Turn.{performOf, unfetched}
+use Rattle.machine_slot.specs.SlotStep.{performOf, unfetched}
 use Rattle.machine_actions.specs.declared.actions.Action.{Action}
 use Rattle.machine_actions.specs.declared.actions.Part.{Part}
 use Rattle.machine_state.specs.declared.slots.Mode.{Mode}
 use Rattle.machine_state.specs.declared.slots.SlotName.{SlotName}
 use Rattle.machine_state.specs.declared.slots.Slot.{Slot}
 use Rattle.machine_state.specs.declared.state.State.{State}
-use Rattle.machine_slot.specs.declared.turn.Effect.{Effect}
-use Rattle.machine_slot.specs.declared.turn.Turn.{Turn}
+use Rattle.machine_slot.specs.declared.slot_steps.Effect.{Effect}
+use Rattle.machine_slot.specs.declared.slot_steps.SlotStep.{SlotStep}
 use Rattle.run.specs.Run.{Run, begun, nextStep, runFor}
-use Rattle.run.specs.SlotRun.{Scene, SlotRun, slotBegun, nextTurn, slotRunFor, slotRunOf}
+use Rattle.run.specs.SlotRun.{Scene, SlotRun, slotBegun, nextSlotStep, slotRunFor, slotRunOf}
 use Rattle.run.proofs.SlotRuns.{slot-snoc}
 use Rattle.script.specs.Script.{Script, fetchAt}
 use Rattle.script.proofs.Scripts.{Auditable, Reads}
@@ -71,13 +71,13 @@ ewait-unfinished log event value rows (Released.At p n) o c =
     never (cc (lt-ltb event 32 (o .0), lt-ltb value 2 small))
 ewait-unfinished log event value rows (Released.End n) o c = (refl, refl, refl)
 
--- so is a run at it, after its turn
+-- so is a run at it, after its step
 pub stuck-there : {x : Script} {p t event value : ℕ} → Reads x p (Action.Ewait event value) t → canRelease event value ≡ false
     → (log : Log) {r : SlotRun} → Going p r → Stuck log (next (sceneUnder x log) r)
 unfolding performOf
 stuck-there {x} {event = event} {value = value} e c log {r} g =
     let cut = ewait-unfinished log event value (length (log .clocks)) (ewaitOf log (r .place) event value) (ewait-on-reading log event value (r .place)) c in
-    let same = ap (λ (turn : Turn). turn .place) (performs x true log g e) in
+    let same = ap (λ (step : SlotStep). step .place) (performs x true log g e) in
     record { waits = mode-then x true log g e ∙ rw (cut .0) refl; row = rw same (cut .1); used = rw same (cut .2) }
 
 -- a low half leaves the high one
@@ -130,8 +130,8 @@ module _ {x : Script} {ranges : List ℕ} (fit : Auditable x) {q : ℕ} {k : Kno
     abbrev effect : Effect
     effect = nextStep name log (runFor name log steps (begun s)) .effect
 
-    does : {t : Turn} → nextTurn scene slot-run ≡ t → effect ≡ t .effect
-    does e = effect-follows start (fit .fits) log (witness-valid w) steps ∙ ap (λ (t : Turn). t .effect) e
+    does : {t : SlotStep} → nextSlotStep scene slot-run ≡ t → effect ≡ t .effect
+    does e = effect-follows start (fit .fits) log (witness-valid w) steps ∙ ap (λ (t : SlotStep). t .effect) e
 
     stops : (why : Unreadable) → fetchAt x q ≡ Decoded.Refused why
         → effect ≡ unfetched (x .family) (slot-run .slot) (slot-run .flags) (slot-run .place) why .effect

@@ -1,4 +1,4 @@
--- A passed script under any log, after any number of turns: it goes on as the auditor has it, is held up, or has exited. Assumes nothing.
+-- A passed script under any log, after any number of steps: it goes on as the auditor has it, is held up, or has exited. Assumes nothing.
 use Prim.Native.Nat.{ℕ, zero, suc, _+_, _≤_}
 use mathlib.Core.Path.{_≡_, refl, ap}
 use mathlib.Core.Logic.{⊎-elim}
@@ -13,7 +13,7 @@ use Rattle.machine_flags.specs.Flags.{pausedOf}
 use Rattle.machine_state.specs.Slot.{isRunning}
 use Rattle.machine_state.specs.declared.slots.Mode.{Mode}
 use Rattle.machine_time.specs.Time.{elapsedOf}
-use Rattle.machine_slot.specs.Turn.{performOf}
+use Rattle.machine_slot.specs.SlotStep.{performOf}
 use Rattle.machine_actions.specs.declared.actions.Action.{Action}
 use Rattle.run.specs.SlotRun.{SlotRun, slotRunFor}
 use Rattle.run.proofs.SlotRuns.{next-place}
@@ -45,7 +45,7 @@ module _ (x : Script) (ranges : List ℕ) where
       exits : Exited q l r → Stands q l low r
 
     module _ {q m : ℕ} {l : Knowledge} (e : Reads x q Action.Exit m) where
-      -- exit's own turn
+      -- exit's own step
       pub exit-step : {addr word : ℕ} {r : SlotRun} → Agree x ranges addr word q l r → Exited q l (next (sceneUnder x log) r)
       unfolding performOf
       exit-step g = rw (performs x true log (g .going) e) (record {

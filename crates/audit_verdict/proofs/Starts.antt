@@ -28,7 +28,7 @@ use Rattle.audit_verdict.specs.Demand3.{withAddr, withData}
 use Rattle.audit_verdict.specs.Start.{SlotInType, InType, Start}
 use Rattle.script.specs.Script.{Script}
 use Rattle.script.proofs.Scripts.{Fits, Auditable}
-use Rattle.run.specs.SlotRun.{slotBegun, nextTurn, slotRunFor, slotAtEntry, stateWith, slotRunOf, Holds}
+use Rattle.run.specs.SlotRun.{slotBegun, nextSlotStep, slotRunFor, slotAtEntry, stateWith, slotRunOf, Holds}
 use Rattle.run.proofs.Held.{filled-size, filledScene, filled-marks, filled-code}
 use Rattle.run.proofs.InState.{run-back, follows, next-follows}
 use Rattle.audit_verdict.proofs.Going.{sceneUnder}
@@ -50,7 +50,7 @@ module _ {x : Script} {name : SlotName} {s : State} (start : Start x name s) whe
     listed = tt;
   }
 
-  -- its turns read the script, whatever bytes were never uploaded
+  -- its steps read the script, whatever bytes were never uploaded
   module _ (fit : Fits x) (log : Log) where
     pub holds : Holds (sceneUnder x log) (slotOf s name) (s .flags) name s
     holds =
@@ -69,9 +69,9 @@ module _ {x : Script} {name : SlotName} {s : State} (start : Start x name s) whe
       pub slot-follows : slotRunOf name (runFor name log n (begun s)) ≡ slotRunFor (sceneUnder x log) n (slotBegun (slotOf s name) (s .flags))
       slot-follows = ap (slotRunOf name) (follows (sceneUnder x log) (slotOf s name) (s .flags) name s holds valid n) ∙ run-back s name _
 
-      -- and do what its turns do
+      -- and do what its steps do
       pub effect-follows : nextStep name log (runFor name log n (begun s)) .effect
-          ≡ nextTurn (sceneUnder x log) (slotRunFor (sceneUnder x log) n (slotBegun (slotOf s name) (s .flags))) .effect
+          ≡ nextSlotStep (sceneUnder x log) (slotRunFor (sceneUnder x log) n (slotBegun (slotOf s name) (s .flags))) .effect
       effect-follows = ap (λ (t : Stepped). t .effect) (next-follows (sceneUnder x log) (slotOf s name) (s .flags) name s holds valid n)
 
 -- ---- some start

@@ -7,7 +7,7 @@ use Rattle.isa.specs.Wait.{waitClocks}
 use Rattle.isa_fetch.specs.Fetch.{allMarked, fetchOf}
 use Rattle.log_ewaits.specs.Ewait.{hasReading, searchIn}
 use Rattle.log.specs.Validity.{validLog}
-use Rattle.machine_slot.specs.Turn.{performOf}
+use Rattle.machine_slot.specs.SlotStep.{performOf}
 use Rattle.script.specs.Input.{scriptFits, rangesFit}
 use Rattle.run.specs.Replay.{runAnswerOf}
 use Rattle.run.specs.SlotRun.{slotRunFor}

@@ -22,8 +22,8 @@ use Rattle.machine_time.specs.declared.elapsed.Elapsed.{Elapsed}
 use Rattle.machine_actions.specs.declared.actions.Action.{Action}
 use Rattle.machine_flags.specs.declared.flags.Flags.{Flags}
 use Rattle.machine_state.specs.declared.slots.Slot.{Slot}
-use Rattle.machine_slot.specs.Turn.{performOf}
-use Rattle.machine_slot.specs.declared.turn.Turn.{Turn}
+use Rattle.machine_slot.specs.SlotStep.{performOf}
+use Rattle.machine_slot.specs.declared.slot_steps.SlotStep.{SlotStep}
 use Rattle.run.specs.SlotRun.{SlotRun, slotBegun, slotRunFor}
 use Rattle.script.specs.Script.{Script}
 use Rattle.audit_verdict.specs.Auditor.{canRelease, Releasable, knowNothing}
@@ -185,8 +185,8 @@ module _ {x : Script} {ranges : List ℕ} (log : List Row) where
       let next = rowAfter action row in
       let t = finishes log action (r .place) row (rowsOver (actionsOf w) next) (f .event) (continues (actionsOf w) next) o in
       let does = performs x true (logIn log) (g .going) e in
-      let rest = reach-on w next (goes-on (logIn log) g e f (t .finished)) (rw (ap (λ (turn : Turn). turn .place) does) (t .on)) in
-      let searched = ap (λ (turn : Turn). turn .searched) does in
+      let rest = reach-on w next (goes-on (logIn log) g e f (t .finished)) (rw (ap (λ (step : SlotStep). step .place) does) (t .on)) in
+      let searched = ap (λ (step : SlotStep). step .searched) does in
       let sum = length-append (rowsEnded action row) (rowsOver (actionsOf w) next) in
       record { agrees = rest .agrees; one-left = rest .one-left; passed-by = omega (arith, rest .passed-by, searched, t .passed, sum) }
 

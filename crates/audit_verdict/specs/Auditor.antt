@@ -6,7 +6,6 @@ use mathlib.Core.List.{List}
 use lib.Dec.{ltb, eqb}
 use Rattle.refusals.specs.Number.{faultNumber}
 use Rattle.families.specs.Family.{codeSize, pausesMemory}
-use Rattle.isa.specs.declared.instructions.Instruction.{Instruction}
 use Rattle.isa.specs.declared.reader.Decoded.{Decoded}
 use Rattle.refusals.specs.declared.refusals.Unreadable.{Unreadable}
 use Rattle.machine_actions.specs.Action.{actionOf, mergeOf}

@@ -7,7 +7,6 @@ use lib.ListN.{length, replicate}
 use Rattle.families.specs.Family.{codeSize}
 use Rattle.log.specs.Log.{logOf}
 use Rattle.refusals.specs.Number.{faultNumber}
-use Rattle.refusals.specs.declared.refusals.Fault.{Fault}
 use Rattle.script.specs.Script.{Script, scriptOf}
 use Rattle.run.specs.Registers.{registersOf}
 use Rattle.run.specs.Replay.{maxEntries, replayOf}

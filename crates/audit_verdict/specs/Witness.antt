@@ -24,7 +24,7 @@ use Rattle.machine_state.specs.Slot.{slotOf}
 use Rattle.machine_state.specs.declared.slots.Mode.{Mode}
 use Rattle.machine_state.specs.declared.slots.SlotName.{SlotName}
 use Rattle.machine_state.specs.declared.state.State.{State}
-use Rattle.machine_slot.specs.declared.turn.Effect.{Effect}
+use Rattle.machine_slot.specs.declared.slot_steps.Effect.{Effect}
 use Rattle.script.specs.Script.{Script, fetchAt}
 use Rattle.script.specs.Input.{listedIn, inputFits}
 use Rattle.run.specs.Run.{Run}

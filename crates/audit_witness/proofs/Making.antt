@@ -29,7 +29,7 @@ use Rattle.script.proofs.Scripts.{fits-script, Reads}
 use Rattle.audit_verdict.specs.Auditor.{Releasable, waitLength, knowNext, knowNothing, auditOf}
 use Rattle.audit_verdict.specs.Witness.{firstRow, eventRow, releases, rowAfter, rowsEnded, rowsOver, writesOver, placeOf, maxShown}
 use Rattle.audit_verdict.specs.declared.verdicts.Knowledge.{Knowledge}
-use Rattle.audit_script.proofs.Turns.{poke-small}
+use Rattle.audit_script.proofs.Walking.{poke-small}
 use Rattle.audit_verdict.proofs.Cases.{never}
 use Rattle.audit_verdict.proofs.Judging.{Fine}
 use Rattle.audit_verdict.proofs.Walk.{Walk, here, more, actionsOf, walk-forward, way-is}

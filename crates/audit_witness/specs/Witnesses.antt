@@ -17,7 +17,6 @@ use Rattle.audit_verdict.specs.Auditor.{auditOf}
 use Rattle.audit_verdict.specs.Witness.{firstRow, rowsOver, writesOver, maxShown, wayTo, ShownBy}
 use Rattle.audit_verdict.specs.WorkedLogs.{WorkedLogs}
 use Rattle.audit_script.specs.Promises.{Audits}
-use Rattle.audit_witness.specs.declared.showing.Shown.{Shown}
 use Rattle.audit_witness.specs.declared.showing.WitnessAnswer.{WitnessAnswer}
 
 -- 171 entries in each column

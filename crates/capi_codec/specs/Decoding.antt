@@ -3,10 +3,8 @@ use Prim.Native.Nat.{ℕ}
 use mathlib.Core.Path.{_≡_}
 use mathlib.Core.List.{List}
 use Rattle.refusals.specs.Number.{unreadableNumber}
-use Rattle.refusals.specs.declared.refusals.Unreadable.{Unreadable}
 use Rattle.isa.specs.Reader.{decodeOf}
 use Rattle.isa.specs.Codec.{Reads}
-use Rattle.isa.specs.declared.addresses.MmioAddress.{MmioAddress}
 use Rattle.isa.specs.declared.instructions.Instruction.{Instruction}
 use Rattle.isa.specs.declared.reader.Decoded.{Decoded}
 use Rattle.capi_codec.specs.declared.decoding.DecodeReply.{DecodeReply}

@@ -9,7 +9,6 @@ use Rattle.families.specs.Family.{knownFamily}
 use Rattle.refusals.specs.Number.{unwritableNumber}
 use Rattle.isa.specs.Writer.{encodeOf}
 use Rattle.isa.specs.Codec.{Writes}
-use Rattle.isa.specs.declared.addresses.MmioAddress.{MmioAddress}
 use Rattle.isa.specs.declared.instructions.Instruction.{Instruction}
 use Rattle.isa.specs.declared.encoding.Encoded.{Encoded}
 use Rattle.capi_codec.specs.declared.encoding.EncodeReply.{EncodeReply}

@@ -2,13 +2,10 @@
 use Prim.Native.Nat.{ℕ}
 use mathlib.Core.Path.{_≡_}
 use Rattle.refusals.specs.Number.{inaccessibleNumber}
-use Rattle.isa.specs.declared.addresses.MmioAddress.{MmioAddress}
 use Rattle.host_registers.specs.Access.{freshOf, writeOf, readOf}
 use Rattle.host_registers.specs.Promises.{outcomeNumber, Begins, HostWrites, HostReads}
 use Rattle.host_registers.specs.declared.access.Access.{Access}
-use Rattle.host_registers.specs.declared.access.Outcome.{Outcome}
 use Rattle.host_registers.specs.declared.access.Reading.{Reading}
-use Rattle.machine_state.specs.declared.state.State.{State}
 use Rattle.capi_machine.specs.Images.{stateFrom, stateImage}
 use Rattle.capi_machine.specs.declared.accesses.AccessReply.{AccessReply}
 use Rattle.capi_machine.specs.declared.accesses.ReadReply.{ReadReply}

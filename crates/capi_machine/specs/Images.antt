@@ -2,9 +2,6 @@
 use Prim.Native.Nat.{ℕ}
 use mathlib.Core.Bool.{cond}
 use lib.Dec.{eqb}
-use Rattle.isa.specs.declared.addresses.CodeAddress.{CodeAddress}
-use Rattle.isa.specs.declared.addresses.MmioAddress.{MmioAddress}
-use Rattle.machine_flags.specs.declared.flags.Flags.{Flags}
 use Rattle.machine_state.specs.declared.slots.Mode.{Mode}
 use Rattle.machine_state.specs.declared.slots.Slot.{Slot}
 use Rattle.machine_state.specs.declared.state.State.{State}

@@ -6,7 +6,7 @@ use lib.Dec.{eqb}
 use Rattle.refusals.specs.Number.{unreadableNumber, unsteppableNumber}
 use Rattle.log.specs.Log.{Log}
 use Rattle.machine_state.specs.declared.slots.SlotName.{SlotName}
-use Rattle.machine_slot.specs.declared.turn.Effect.{Effect}
+use Rattle.machine_slot.specs.declared.slot_steps.Effect.{Effect}
 use Rattle.machine_step.specs.Step.{stepOf}
 use Rattle.machine_step.specs.Promises.{Steps}
 use Rattle.machine_step.specs.declared.steps.Stepped.{Stepped}

@@ -2,7 +2,6 @@
 use Prim.Native.Nat.{ℕ, _/_, _%_}
 use mathlib.Core.Path.{_≡_, refl, sym, _∙_}
 use mathlib.Core.Bool.{Bool, true, false, cond, _||_}
-use native.Mathlib.Omega.{arith}
 use Rattle.families.specs.Family.{knownFamily}
 use Rattle.isa.specs.declared.addresses.MmioAddress.{MmioAddress}
 use Rattle.refusals.specs.declared.refusals.Inaccessible.{Inaccessible}
@@ -31,7 +30,8 @@ or-false false = refl
 pub triggered-as : (s : State) (word : ℕ)
     → let name = slotNamed (s .family) word in
     let slot = slotOf s name in
-    withSlot s name (cond (isStart word) (startedAt slot (entryPoint (s .family) (s .entries) (s .«entries_high») (word / 4 % 4))) (aborted slot)) (s .flags) ≡ afterTrigger s word
+    withSlot s name (cond (isStart word) (startedAt slot (entryPoint (s .family) (s .entries) (s .«entries_high») (word / 4 % 4))) (aborted slot)) (s .flags)
+    ≡ afterTrigger s word
 unfolding afterTrigger
 triggered-as s word = chosen (isStart word) _ _
   where
@@ -56,8 +56,10 @@ module _ (s : State) (address : MmioAddress) (word : ℕ) where
   answers = chosen (knownFamily (s .family)) (isWritable register) (isTaken s address word)
     where
       chosen : (known writable taken : Bool)
-          → Answers (cond known (cond writable (cond taken Outcome.Done (Outcome.Refused Inaccessible.Executing)) (Outcome.Refused Inaccessible.Register)) (Outcome.Refused Inaccessible.Family))
-          (cond known (cond writable (cond taken (done (afterWrite s register word)) (refused s Inaccessible.Executing)) (refused s Inaccessible.Register)) (refused s Inaccessible.Family))
+          → Answers (cond known (cond writable (cond taken Outcome.Done (Outcome.Refused Inaccessible.Executing)) (Outcome.Refused Inaccessible.Register))
+          (Outcome.Refused Inaccessible.Family))
+          (cond known (cond writable (cond taken (done (afterWrite s register word)) (refused s Inaccessible.Executing)) (refused s Inaccessible.Register))
+          (refused s Inaccessible.Family))
       chosen true true true = refl
       chosen true true false = refl
       chosen true false taken = refl

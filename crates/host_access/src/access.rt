@@ -38,7 +38,8 @@ fn after_write(
     marks: &mut [u8; 512],
 ) -> Sequencer
     requires { ⌜ InRoom register ⌝ }
-    ensures { λ r. ⌜ stateFrom r (now (code .exit)) (now (marks .exit)) ≡ afterWrite (stateFrom sequencer (now (code .entry)) (now (marks .entry))) register word ⌝ }
+    ensures { λ r. ⌜ stateFrom r (now (code .exit)) (now (marks .exit)) ≡ afterWrite (stateFrom sequencer (now (code .entry)) (now
+        (marks .entry))) register word ⌝ }
 {
     match register {
         Register::Control => {
@@ -105,7 +106,8 @@ pub fn write(
     code: &mut [u8; 512],
     marks: &mut [u8; 512],
 ) -> Written
-    ensures { λ r. ⌜ WritesInPlace (stateFrom sequencer (now (code .entry)) (now (marks .entry))) address word (accessOf r (now (code .exit)) (now (marks .exit))) ⌝ }
+    ensures { λ r. ⌜ WritesInPlace (stateFrom sequencer (now (code .entry)) (now (marks .entry))) address word (accessOf r (now (code .exit)) (now
+        (marks .exit))) ⌝ }
 {
     let a = sequencer.a;
     let b = sequencer.b;

@@ -9,7 +9,6 @@ use Rattle.isa.specs.declared.addresses.CodeAddress.{CodeAddress}
 use Rattle.isa.specs.declared.addresses.MmioAddress.{MmioAddress}
 use Rattle.machine_state.specs.Slot.{slotOf, withSlot}
 use Rattle.machine_state.specs.declared.slots.Mode.{Mode}
-use Rattle.machine_state.specs.declared.slots.Slot.{Slot}
 use Rattle.machine_state.specs.declared.slots.SlotName.{SlotName}
 use Rattle.machine_state.specs.declared.state.State.{State}
 use Rattle.host_registers.specs.Access.{freshOf, afterWrite, isAbort, isTaken, writeOf, readingOf, readOf}
@@ -138,8 +137,24 @@ module _ (s : State) (address : MmioAddress) (word : ℕ) where
       split (knownFamily (s .family))
       (λ u. split (isWritable register)
       (λ v. split (isTaken s address word)
-      (λ w. simp (u, v, w) (record { numbered = simp (u, v, taken-free (isAbort address word) (someSlotExecutes s) w); unmoved = tt; spares = spares-write s register word }))
-      (λ w. simp (u, v, w) (record { numbered = simp (u, v, held-refused (isAbort address word) (someSlotExecutes s) w); unmoved = refl; spares = spares-all s })))
+      (λ w. simp (u, v, w) (record {
+        numbered = simp (
+          u,
+          v,
+          taken-free (isAbort address word) (someSlotExecutes s) w,
+        );
+        unmoved = tt;
+        spares = spares-write s register word;
+      }))
+      (λ w. simp (u, v, w) (record {
+        numbered = simp (
+          u,
+          v,
+          held-refused (isAbort address word) (someSlotExecutes s) w,
+        );
+        unmoved = refl;
+        spares = spares-all s;
+      })))
       (λ v. split (isTaken s address word)
       (λ w. simp (u, v, w) (record { numbered = simp (u, v); unmoved = refl; spares = spares-all s }))
       (λ w. simp (u, v, w) (record { numbered = simp (u, v); unmoved = refl; spares = spares-all s }))))
@@ -159,7 +174,8 @@ module _ (s : State) (address : MmioAddress) (word : ℕ) where
       let name = slotNamed (s .family) word in
       simp (u, trigger-here h, h, z) (record { taken = refl; idle = stopped-mode s name; ip = stopped-ip s name; still = stopped-still s name })
 
-  write-back : Roomy s → word < 2 ^ 32 → writeOf s address word .outcome ≡ Outcome.Done → isReadable register ≡ true → readOf (writeOf s address word .state) address ≡ Reading.Word (keptBits register word)
+  write-back : Roomy s → word < 2 ^ 32 → writeOf s address word .outcome ≡ Outcome.Done → isReadable register ≡ true
+      → readOf (writeOf s address word .state) address ≡ Reading.Word (keptBits register word)
   unfolding writeOf readOf
   write-back roomy small =
       cond-elim Back (knownFamily (s .family))

@@ -10,7 +10,6 @@ use lib.Seq.{sets, sets-eq, getD-append-add, length-take-le}
 use borrow.Author.Tests.{eqb-true, eqb-false}
 use Rattle.isa.proofs.Tests.{cond-elim}
 use Rattle.isa.specs.Writer.{leBytes}
-use Rattle.isa.specs.declared.addresses.CodeAddress.{CodeAddress}
 use Rattle.machine_flags.specs.Flags.{flagsWord0, flagsWord1, flagsFromWords}
 use Rattle.machine_flags.specs.declared.flags.Flags.{Flags}
 use Rattle.machine_state.specs.declared.state.State.{State}
@@ -21,7 +20,6 @@ use Rattle.host_registers.specs.Promises.{isReadable, keptBits}
 use Rattle.host_registers.specs.Register.{InRoom, isWritable}
 use Rattle.host_registers.specs.Status.{bitIf}
 use Rattle.host_registers.specs.declared.access.Reading.{Reading}
-use Rattle.refusals.specs.declared.refusals.Inaccessible.{Inaccessible}
 use Rattle.host_registers.specs.declared.registers.Register.{Register}
 
 never : {A : Type 0} → false ≡ true → A
@@ -62,7 +60,8 @@ stored : (l vs : List ℕ) (at : ℕ) → at + length vs ≤ length l → (k : �
 stored l vs at fits k =
     let e : length (take at l) ≡ at = length-take-le at l (omega arith) in
     rw (sets-eq vs l at fits, append-assoc)
-    (subst (λ (n : ℕ). getD (take at l ++ (vs ++ drop (at + length vs) l)) (n + k) 0 ≡ getD (vs ++ drop (at + length vs) l) k 0) e (getD-append-add (take at l) (vs ++ drop (at + length vs) l) k 0))
+    (subst (λ (n : ℕ). getD (take at l ++ (vs ++ drop (at + length vs) l)) (n + k) 0 ≡ getD (vs ++ drop (at + length vs) l) k 0) e (getD-append-add
+    (take at l) (vs ++ drop (at + length vs) l) k 0))
 
 -- a state has room for 512 bytes of code and their marks
 pub record Roomy (s : State) : Type 0 where
@@ -70,7 +69,8 @@ pub record Roomy (s : State) : Type 0 where
   pub marks : length (s .marks) ≡ 512
 
 module _ (s : State) (roomy : Roomy s) (at word : ℕ) (fits : at + 4 ≤ 512) where
-  byte-back : (k : ℕ) → getD (fourMarks ++ drop (at + 4) (s .marks)) k 0 ≡ 1 → uploadedByte (afterUpload s at word) (at + k) ≡ getD (leBytes 4 word ++ drop (at + 4) (s .code)) k 0
+  byte-back : (k : ℕ) → getD (fourMarks ++ drop (at + 4) (s .marks)) k 0 ≡ 1
+      → uploadedByte (afterUpload s at word) (at + k) ≡ getD (leBytes 4 word ++ drop (at + 4) (s .code)) k 0
   unfolding uploadedByte afterUpload
   byte-back k h =
       let m = stored (s .marks) fourMarks at (omega (arith, roomy .marks)) k in
@@ -82,7 +82,8 @@ module _ (s : State) (roomy : Roomy s) (at word : ℕ) (fits : at + 4 ≤ 512) w
       let z : at + 0 ≡ at = omega arith in
       rw (rw z at (byte-back 0 refl), byte-back 1 refl, byte-back 2 refl, byte-back 3 refl) (omega arith)
 
-pub word-back : (s : State) → Roomy s → (register : Register) (word : ℕ) → word < 2 ^ 32 → InRoom register → isWritable register ≡ true → isReadable register ≡ true
+pub word-back : (s : State) → Roomy s → (register : Register) (word : ℕ) → word < 2 ^ 32 → InRoom register → isWritable register ≡ true
+    → isReadable register ≡ true
     → readingOf (afterWrite s register word) register ≡ Reading.Word (keptBits register word)
 word-back s roomy Register.Control word h room w r = rw (control-back word)
 word-back s roomy Register.EntryPoint word h room w r = refl

@@ -9,8 +9,6 @@ use Rattle.isa.specs.declared.addresses.MmioAddress.{MmioAddress}
 use Rattle.machine_flags.specs.Flags.{flagsWord0, flagsWord1, flagsFromWords}
 use Rattle.machine_state.specs.Slot.{blankSlot, withSlot}
 use Rattle.machine_state.specs.Sequencer.{stateFrom}
-use Rattle.machine_flags.specs.declared.flags.Flags.{Flags}
-use Rattle.machine_state.specs.declared.sequencer.Sequencer.{Sequencer}
 use Rattle.machine_state.specs.declared.slots.SlotName.{SlotName}
 use Rattle.machine_state.specs.declared.state.State.{State}
 use Rattle.host_registers.specs.Code.{afterUpload, codeWord}
@@ -58,13 +56,37 @@ freshOf family = cond (knownFamily family) (done (blankState family)) (refused (
 
 -- 001098: bit 3 is HWSQ_ENABLE, bit 4 the override mode; other bits are ignored, and read 0
 abbrev pub withControl : State → ℕ → State
-withControl s word = record { family = s .family; code = s .code; marks = s .marks; flags = s .flags; enable = eqb (word / 8 % 2) 1; «override_mode» = eqb (word / 16 % 2) 1; entries = s .entries; «entries_high» = s .«entries_high»; a = s .a; b = s .b }
+withControl s word = record {
+  family = s .family;
+  code = s .code;
+  marks = s .marks;
+  flags = s .flags;
+  enable = eqb (word / 8 % 2) 1;
+  «override_mode» = eqb
+      (word / 16 % 2) 1;
+  entries = s .entries;
+  «entries_high» = s .«entries_high»;
+  a = s .a;
+  b = s .b;
+}
 
 abbrev pub controlWord : Bool → Bool → ℕ
 controlWord enable override = bitIf enable 8 + bitIf override 16
 
 abbrev pub withEntries : State → ℕ → ℕ → State
-withEntries s low high = record { family = s .family; code = s .code; marks = s .marks; flags = s .flags; enable = s .enable; «override_mode» = s .«override_mode»; entries = low; «entries_high» = high; a = s .a; b = s .b }
+withEntries s low high = record {
+  family = s .family;
+  code = s .code;
+  marks = s .marks;
+  flags = s .flags;
+  enable = s .enable;
+  «override_mode» = s
+      .«override_mode»;
+  entries = low;
+  «entries_high» = high;
+  a = s .a;
+  b = s .b;
+}
 
 abbrev pub withFlags : State → ℕ → ℕ → State
 withFlags s word0 word1 = withSlot s SlotName.A (s .a) (flagsFromWords word0 word1)

@@ -10,7 +10,18 @@ use Rattle.machine_state.specs.declared.state.State.{State}
 
 -- the state with other code and marks
 abbrev pub withCode : State → List ℕ → List ℕ → State
-withCode s code marks = record { family = s .family; code = code; marks = marks; flags = s .flags; enable = s .enable; «override_mode» = s .«override_mode»; entries = s .entries; «entries_high» = s .«entries_high»; a = s .a; b = s .b }
+withCode s code marks = record {
+  family = s .family;
+  code = code;
+  marks = marks;
+  flags = s .flags;
+  enable = s .enable;
+  «override_mode» = s .«override_mode»;
+  entries = s .entries;
+  «entries_high» = s .«entries_high»;
+  a = s .a;
+  b = s .b;
+}
 
 abbrev pub fourMarks : List ℕ
 fourMarks = 1 ∷ 1 ∷ 1 ∷ 1 ∷ []

@@ -4,10 +4,8 @@ use mathlib.Core.Path.{_≡_}
 use mathlib.Core.Bool.{Bool, true, false, cond, not, _&&_}
 use Rattle.families.specs.Family.{knownFamily}
 use Rattle.isa.specs.declared.addresses.MmioAddress.{MmioAddress}
-use Rattle.isa.specs.declared.addresses.CodeAddress.{CodeAddress}
 use Rattle.machine_state.specs.Slot.{slotOf}
 use Rattle.machine_state.specs.declared.slots.Mode.{Mode}
-use Rattle.machine_state.specs.declared.slots.Slot.{Slot}
 use Rattle.machine_state.specs.declared.slots.SlotName.{SlotName}
 use Rattle.machine_state.specs.declared.state.State.{State}
 use Rattle.host_registers.specs.Access.{freshOf, writeOf, readOf, isAbort}
@@ -19,7 +17,6 @@ use Rattle.host_registers.specs.Trigger.{isStart, slotNamed}
 use Rattle.host_registers.specs.declared.access.Access.{Access}
 use Rattle.host_registers.specs.declared.access.Outcome.{Outcome}
 use Rattle.host_registers.specs.declared.access.Reading.{Reading}
-use Rattle.refusals.specs.declared.refusals.Inaccessible.{Inaccessible}
 use Rattle.host_registers.specs.declared.registers.Register.{Register}
 
 -- the number that an outcome stands for, 0 where nothing was refused
@@ -110,7 +107,8 @@ pub record HostWrites (s : State) (address : MmioAddress) (word : ℕ) (answer :
   pub spares : Spares s (answer .state)
   pub stops : knownFamily (s .family) ≡ true → address .0 ≡ triggerAt → isStart word ≡ false → Stops s (slotNamed (s .family) word) answer
   -- what was written reads back
-  pub reads-back : answer .outcome ≡ Outcome.Done → isReadable (registerAt (s .family) address) ≡ true → readOf (answer .state) address ≡ Reading.Word (keptBits (registerAt (s .family) address) word)
+  pub reads-back : answer .outcome ≡ Outcome.Done → isReadable (registerAt (s .family) address) ≡ true
+      → readOf (answer .state) address ≡ Reading.Word (keptBits (registerAt (s .family) address) word)
   -- EVENTS is not writable
   pub events : knownFamily (s .family) ≡ true → address .0 ≡ 0x001578 → outcomeNumber (answer .outcome) ≡ 27
 

@@ -3,7 +3,6 @@ use Prim.Native.Nat.{ℕ, _+_, _*_, _/_, _%_}
 use mathlib.Core.Bool.{Bool, true, false, cond, not, _&&_}
 use lib.Dec.{eqb}
 use Rattle.families.specs.Family.{unknownHangs}
-use Rattle.isa.specs.declared.addresses.CodeAddress.{CodeAddress}
 use Rattle.machine_state.specs.Slot.{hasSlot, isIdle}
 use Rattle.machine_state.specs.declared.slots.Mode.{Mode}
 use Rattle.machine_state.specs.declared.slots.Slot.{Slot}

@@ -83,7 +83,10 @@ word n b x xs e h a = ap₂ (λ (y : ℕ) (ys : List ℕ). y ∷ ys) (sym e) (re
 read-spelled : (f : ℕ) (k : Opcode) (bs : List ℕ) → FirstByte f k (getD bs 0 0) → AreBytes bs → sizeOf k ≤ length bs → SpelledAs f bs (readAs k bs)
 read-spelled f Opcode.Wait [] r a h = absurd (omega arith)
 read-spelled f Opcode.Wait (x ∷ xs) r a h =
-    one f (Instruction.Wait (x % 4) (x / 4)) x xs (ap (λ (y : ℕ). y ∷ []) (omega arith)) refl (simp (le-leb (x % 4) 3 (omega arith), le-leb (x / 4) 15 (omega arith)))
+    one f (Instruction.Wait (x % 4) (x / 4)) x xs (ap (λ (y : ℕ). y ∷ []) (omega arith)) refl (simp (
+      le-leb (x % 4) 3 (omega arith),
+      le-leb (x / 4) 15 (omega arith),
+    ))
 read-spelled f Opcode.AddrLo [] r a h = absurd (omega arith)
 read-spelled f Opcode.AddrLo (x ∷ xs) r a h =
     record { bytes = word 2 0x40 x xs (r .0) (omega arith) a; on = r .1; fit = refl; width = refl; some = omega arith; room = h }
@@ -162,7 +165,8 @@ opcode-back f (Instruction.Set0 n) o w = op.set0 f (0xc0 + n) (omega arith) (ome
 opcode-back f (Instruction.Addr a) o w = kept f Opcode.Addr o ∙ op.addr f 0xe0 refl
 opcode-back f (Instruction.Data d) o w = kept f Opcode.Data o ∙ op.data32 f 0xe2 refl
 
-operands-back : (i : Instruction) (after : List ℕ) → operandsFit i ≡ true → InType i → readAs (opcodeOf i) (spell i ++ after) ≡ Decoded.Instruction i (length (spell i))
+operands-back : (i : Instruction) (after : List ℕ) → operandsFit i ≡ true → InType i
+    → readAs (opcodeOf i) (spell i ++ after) ≡ Decoded.Instruction i (length (spell i))
 operands-back (Instruction.Wait l s) after w t =
     let h = wait-fits l s w in
     let p : (l + 4 * s) % 4 ≡ l = omega arith in
@@ -180,7 +184,8 @@ operands-back (Instruction.Addr a) after w t =
 operands-back (Instruction.Data d) after w t = ap (λ (x : ℕ). Decoded.Instruction (Instruction.Data x) 5) (reread 4 d after t)
 
 -- a spelling is as long as its opcode says, and its first byte stands first
-front : (i : Instruction) (after : List ℕ) → (sizeOf (opcodeOf i) ≤ length (spell i ++ after)) × (0 < length (spell i ++ after)) × (getD (spell i) 0 0 ≡ getD (spell i ++ after) 0 0)
+front : (i : Instruction) (after : List ℕ)
+    → (sizeOf (opcodeOf i) ≤ length (spell i ++ after)) × (0 < length (spell i ++ after)) × (getD (spell i) 0 0 ≡ getD (spell i ++ after) 0 0)
 front (Instruction.Wait l s) after = (omega arith, omega arith, refl)
 front (Instruction.AddrLo a) after = (omega arith, omega arith, refl)
 front (Instruction.DataLo d) after = (omega arith, omega arith, refl)
@@ -196,4 +201,5 @@ front (Instruction.Data d) after = (omega arith, omega arith, refl)
 pub reads-back : (f : ℕ) (i : Instruction) (after : List ℕ) → Writable f i → decodeOf f (spell i ++ after) ≡ Decoded.Instruction i (length (spell i))
 reads-back f i after w =
     let s = front i after in
-    sym (whole f (spell i ++ after) (opcodeOf i) (w .family) (s .1) (opcode-back f i (w .on) (w .fit) ∙ ap (opcodeAt f) (s .2)) (s .0)) ∙ operands-back i after (w .fit) (w .in-type)
+    sym (whole f (spell i ++ after) (opcodeOf i) (w .family) (s .1) (opcode-back f i (w .on) (w .fit) ∙ ap (opcodeAt f) (s .2)) (s .0))
+    ∙ operands-back i after (w .fit) (w .in-type)

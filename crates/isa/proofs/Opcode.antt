@@ -40,23 +40,54 @@ module _ (f b : ℕ) where
   pub unset : 0x80 ≤ b → b ≤ 0x9f → Opcode.Unset ≡ opcodeAt f b
   unfolding opcodeAt
   unset h k =
-      simp
-      (outside 0x00 b 0x3f (omega arith), ne-eqb b 0x40 (omega arith), ne-eqb b 0x42 (omega arith), ne-eqb b 0x5f (omega arith), ne-eqb b 0x7f (omega arith), inside 0x80 b 0x9f h k)
+      simp (
+        outside 0x00 b 0x3f (omega arith),
+        ne-eqb b 0x40 (omega arith),
+        ne-eqb b 0x42 (omega arith),
+        ne-eqb b 0x5f (omega arith),
+        ne-eqb b 0x7f (omega arith),
+        inside 0x80 b 0x9f h k,
+      )
 
   pub set1 : 0xa0 ≤ b → b ≤ 0xbf → Opcode.Set1 ≡ opcodeAt f b
   unfolding opcodeAt
   set1 h k =
-      simp
-      (outside 0x00 b 0x3f (omega arith), ne-eqb b 0x40 (omega arith), ne-eqb b 0x42 (omega arith), ne-eqb b 0x5f (omega arith), ne-eqb b 0x7f (omega arith), outside 0x80 b 0x9f (omega arith), inside 0xa0 b 0xbf h k)
+      simp (
+        outside 0x00 b 0x3f (omega arith),
+        ne-eqb b 0x40 (omega arith),
+        ne-eqb b 0x42 (omega arith),
+        ne-eqb b 0x5f (omega arith),
+        ne-eqb b 0x7f (omega arith),
+        outside 0x80 b 0x9f (omega arith),
+        inside 0xa0 b 0xbf h k,
+      )
 
   pub set0 : 0xc0 ≤ b → b ≤ 0xdf → Opcode.Set0 ≡ opcodeAt f b
   unfolding opcodeAt
   set0 h k =
-      simp
-      (outside 0x00 b 0x3f (omega arith), ne-eqb b 0x40 (omega arith), ne-eqb b 0x42 (omega arith), ne-eqb b 0x5f (omega arith), ne-eqb b 0x7f (omega arith), outside 0x80 b 0x9f (omega arith), outside 0xa0 b 0xbf (omega arith), inside 0xc0 b 0xdf h k)
+      simp (
+        outside 0x00 b 0x3f (omega arith),
+        ne-eqb b 0x40 (omega arith),
+        ne-eqb b 0x42 (omega arith),
+        ne-eqb b 0x5f (omega arith),
+        ne-eqb b 0x7f (omega arith),
+        outside 0x80 b 0x9f (omega arith),
+        outside 0xa0 b 0xbf (omega arith),
+        inside 0xc0 b 0xdf h k,
+      )
 
   pub unknown : 0x3f < b → (0x80 ≤ b → b ≤ 0xdf → ⊥) → b ≢ 0x40 → b ≢ 0x42 → b ≢ 0x5f → b ≢ 0x7f → b ≢ 0xe0 → b ≢ 0xe2 → Opcode.Unknown ≡ opcodeAt f b
   unfolding opcodeAt
   unknown low gap n₁ n₂ n₃ n₄ n₅ n₆ =
-      simp
-      (outside 0x00 b 0x3f (omega arith), ne-eqb b 0x40 n₁, ne-eqb b 0x42 n₂, ne-eqb b 0x5f n₃, ne-eqb b 0x7f n₄, outside 0x80 b 0x9f (λ p q. gap p (omega arith)), outside 0xa0 b 0xbf (λ p q. gap (omega arith) (omega arith)), outside 0xc0 b 0xdf (λ p q. gap (omega arith) q), ne-eqb b 0xe0 n₅, ne-eqb b 0xe2 n₆)
+      simp (
+        outside 0x00 b 0x3f (omega arith),
+        ne-eqb b 0x40 n₁,
+        ne-eqb b 0x42 n₂,
+        ne-eqb b 0x5f n₃,
+        ne-eqb b 0x7f n₄,
+        outside 0x80 b 0x9f (λ p q. gap p (omega arith)),
+        outside 0xa0 b 0xbf (λ p q. gap (omega arith) (omega arith)),
+        outside 0xc0 b 0xdf (λ p q. gap (omega arith) q),
+        ne-eqb b 0xe0 n₅,
+        ne-eqb b 0xe2 n₆,
+      )

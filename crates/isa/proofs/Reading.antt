@@ -84,7 +84,12 @@ read-numbered f bs =
     (λ u. cond-elim P (leb 1 (length bs))
     (λ h. let some = leb-true 1 (length bs) h in cond-elim P (leb (sizeOf k) (length bs))
     (λ l. rw read-number (simp (u, ne-eqb (length bs) 0 (omega arith), le-ltb (length bs) (sizeOf k) (leb-true (sizeOf k) (length bs) l))))
-    (λ l. let m = leb-false (sizeOf k) (length bs) l in simp (u, ne-eqb (length bs) 0 (omega arith), long-known k (omega arith), lt-ltb (length bs) (sizeOf k) m)))
+    (λ l. let m = leb-false (sizeOf k) (length bs) l in simp (
+      u,
+      ne-eqb (length bs) 0 (omega arith),
+      long-known k (omega arith),
+      lt-ltb (length bs) (sizeOf k) m,
+    )))
     (λ h. let none = leb-false 1 (length bs) h in simp (u, eq-eqb (length bs) 0 (omega arith))))
     (λ u. simp u)
   where

@@ -33,7 +33,8 @@ cond-elim P true f g = f refl
 cond-elim P false f g = g refl
 
 -- what holds of each family's value, and of 0 where there is no such family, holds of every number's
-pub by-family-elim : (P : ℕ → Type 0) (family one two three four : ℕ) → P one → P two → P three → P four → (knownFamily family ≡ false → P 0) → P (byFamily family one two three four)
+pub by-family-elim : (P : ℕ → Type 0) (family one two three four : ℕ) → P one → P two → P three → P four → (knownFamily family ≡ false → P 0)
+    → P (byFamily family one two three four)
 unfolding byFamily
 by-family-elim P family one two three four a b c d z =
     cond-elim P (eqb family 1) (λ _. a)

@@ -5,7 +5,6 @@ use mathlib.Core.List.{List, _++_}
 use lib.ListN.{length, take}
 use Rattle.isa.specs.Reader.{decodeOf, decodedNumber, readRefusal}
 use Rattle.isa.specs.Writer.{encodeOf, encodedNumber, writeRefusal, writtenOver, spell}
-use Rattle.isa.specs.declared.addresses.MmioAddress.{MmioAddress}
 use Rattle.isa.specs.declared.instructions.Instruction.{Instruction}
 use Rattle.isa.specs.declared.reader.Decoded.{Decoded}
 use Rattle.isa.specs.declared.encoding.Encoded.{Encoded}

@@ -7,7 +7,6 @@ use lib.Dec.{leb, ltb, eqb}
 use Rattle.refusals.specs.Number.{unreadableNumber}
 use Rattle.families.specs.Family.{knownFamily}
 use Rattle.isa.specs.Opcode.{opcodeAt, sizeOf, isUnknown}
-use Rattle.isa.specs.declared.addresses.MmioAddress.{MmioAddress}
 use Rattle.isa.specs.declared.instructions.Instruction.{Instruction}
 use Rattle.isa.specs.declared.opcodes.Opcode.{Opcode}
 use Rattle.isa.specs.declared.reader.Decoded.{Decoded}

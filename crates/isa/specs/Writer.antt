@@ -7,7 +7,6 @@ use lib.Dec.{leb, ltb}
 use Rattle.refusals.specs.Number.{unwritableNumber}
 use Rattle.families.specs.Family.{knownFamily}
 use Rattle.isa.specs.Wait.{waitFits}
-use Rattle.isa.specs.declared.addresses.MmioAddress.{MmioAddress}
 use Rattle.isa.specs.declared.encoding.Encoded.{Encoded}
 use Rattle.isa.specs.declared.instructions.Instruction.{Instruction}
 use Rattle.isa.specs.declared.opcodes.Opcode.{Opcode}

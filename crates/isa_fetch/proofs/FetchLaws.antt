@@ -26,8 +26,10 @@ same-test {b = false} why e h = rw (← e)
 
 -- the reader's tests before it reads
 same-tests : (marks marks′ : List ℕ) (at : ℕ) (family first whole : Bool) (d d′ : Decoded) → (whole ≡ true → checkMarks marks at d ≡ checkMarks marks′ at d′)
-    → checkMarks marks at (cond family (cond first (cond whole d (Decoded.Refused Unreadable.Short)) (Decoded.Refused Unreadable.Empty)) (Decoded.Refused Unreadable.Family))
-    ≡ checkMarks marks′ at (cond family (cond first (cond whole d′ (Decoded.Refused Unreadable.Short)) (Decoded.Refused Unreadable.Empty)) (Decoded.Refused Unreadable.Family))
+    → checkMarks marks at (cond family (cond first (cond whole d (Decoded.Refused Unreadable.Short)) (Decoded.Refused Unreadable.Empty))
+    (Decoded.Refused Unreadable.Family))
+    ≡ checkMarks marks′ at (cond family (cond first (cond whole d′ (Decoded.Refused Unreadable.Short)) (Decoded.Refused Unreadable.Empty))
+    (Decoded.Refused Unreadable.Family))
 same-tests marks marks′ at true true true d d′ h = h refl
 same-tests marks marks′ at true true false d d′ h = refl
 same-tests marks marks′ at true false whole d d′ h = refl
@@ -38,7 +40,8 @@ decoded-by : (family : ℕ) (bytes bytes′ : List ℕ) → length bytes ≡ len
     → decodeOf family bytes′
     ≡ cond (knownFamily family)
     (cond (leb 1 (length bytes))
-    (cond (leb (sizeOf (opcodeAt family (getD bytes 0 0))) (length bytes)) (readAs (opcodeAt family (getD bytes 0 0)) bytes′) (Decoded.Refused Unreadable.Short))
+    (cond (leb (sizeOf (opcodeAt family (getD bytes 0 0))) (length bytes)) (readAs (opcodeAt family (getD bytes 0 0)) bytes′)
+    (Decoded.Refused Unreadable.Short))
     (Decoded.Refused Unreadable.Empty))
     (Decoded.Refused Unreadable.Family)
 unfolding decodeOf
@@ -71,9 +74,15 @@ module _ (family : ℕ) (code marks code′ marks′ : List ℕ) (room : codeSiz
 
     same-byte : (j : ℕ) → at + j < codeSize family → getD marks (at + j) 0 ≡ 1 → getD (drop at ram′) j 0 ≡ getD (drop at ram) j 0
     same-byte j h m =
-        rw (getD-drop at ram′ j 0, getD-drop at ram j 0, getD-take (codeSize family) code′ (at + j) 0 h, getD-take (codeSize family) code (at + j) 0 h) (same-bytes (at + j) h m)
+        rw (
+          getD-drop at ram′ j 0,
+          getD-drop at ram j 0,
+          getD-take (codeSize family) code′ (at + j) 0 h,
+          getD-take (codeSize family) code (at + j) 0 h,
+        ) (same-bytes (at + j) h m)
 
-    same-checked : (k : Opcode) → sizeOf k ≤ length (drop at ram) → checkMarks marks′ at (readAs k (drop at ram′)) ≡ checkMarks marks at (readAs k (drop at ram))
+    same-checked : (k : Opcode) → sizeOf k ≤ length (drop at ram)
+        → checkMarks marks′ at (readAs k (drop at ram′)) ≡ checkMarks marks at (readAs k (drop at ram))
     same-checked k h =
         let l : at + sizeOf k ≤ codeSize family = omega (arith, size, length-drop at ram) in
         let same = same-marked (sizeOf k) at l in
@@ -87,7 +96,8 @@ module _ (family : ℕ) (code marks code′ marks′ : List ℕ) (room : codeSiz
         let k = opcodeAt family (getD (drop at ram) 0 0) in
         let first = same-byte 0 (omega arith) (rw add-zero marked) in
         ap (checkMarks marks′ at) (decoded-by family (drop at ram) (drop at ram′) same-length (sym first))
-        ∙ same-tests marks′ marks at (knownFamily family) (leb 1 (length (drop at ram))) (leb (sizeOf k) (length (drop at ram))) (readAs k (drop at ram′)) (readAs k (drop at ram))
+        ∙ same-tests marks′ marks at (knownFamily family) (leb 1 (length (drop at ram))) (leb (sizeOf k) (length (drop at ram))) (readAs k (drop at ram′))
+        (readAs k (drop at ram))
         (λ w. same-checked k (leb-true (sizeOf k) (length (drop at ram)) w))
         ∙ ap (checkMarks marks at) (sym (decoded-by family (drop at ram) (drop at ram) refl refl))
 

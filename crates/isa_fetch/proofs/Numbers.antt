@@ -37,7 +37,8 @@ module _ (marks : List ℕ) (at : ℕ) (bytes : List ℕ) (k : Opcode) where
       P d = decodedNumber d ≡ cond (isUnknown k) 3 (cond (not (allMarked (sizeOf k) marks at)) 2 0)
 
 -- the number of what the reader says of bytes, once its marks are looked at
-module _ (family : ℕ) (marks : List ℕ) (at : ℕ) (bytes : List ℕ) (k : Opcode) (u : knownFamily family ≡ true) (h : 0 < length bytes) (e : k ≡ opcodeAt family (getD bytes 0 0)) where
+module _ (family : ℕ) (marks : List ℕ) (at : ℕ) (bytes : List ℕ) (k : Opcode) (u : knownFamily family ≡ true) (h : 0 < length bytes) (e : k
+    ≡ opcodeAt family (getD bytes 0 0)) where
   checked-number : decodedNumber (checkMarks marks at (decodeOf family bytes))
       ≡ cond (isUnknown k) 3 (cond (ltb (length bytes) (sizeOf k)) 1 (cond (not (allMarked (sizeOf k) marks at)) 2 0))
   checked-number =
@@ -70,7 +71,10 @@ fetch-numbered family code marks at =
     (λ l. let within = ltb-true at (length ram) l in
     cond-elim P (eqb (getD marks at 0) 1)
     (λ m.
-    checked-number family marks at (drop at ram) k (ram-known family (knownFamily family) refl (omega (arith, ram-most family code))) (omega (arith, length-drop at ram)) first
+    checked-number family marks at (drop at ram) k (ram-known family (knownFamily family) refl (omega (arith, ram-most family code))) (omega (
+      arith,
+      length-drop at ram,
+    )) first
     ∙ simp (lt-leb (length ram) at within, m, same-cut ram at (sizeOf k) within))
     (λ m. simp (lt-leb (length ram) at within, m)))
     (λ l. simp (le-leb (length ram) at (ltb-false at (length ram) l)))

@@ -65,7 +65,8 @@ written-fits f i lent =
     (λ _. tt)
 
 -- what the reader finds in the RAM from a place on lies in the RAM
-pub inside-of : (family : ℕ) (code marks : List ℕ) (at : ℕ) (d : Decoded) → at ≤ length (codeRam family code) → OneSpelling family (drop at (codeRam family code)) d → Inside family code at (checkMarks marks at d)
+pub inside-of : (family : ℕ) (code marks : List ℕ) (at : ℕ) (d : Decoded) → at ≤ length (codeRam family code)
+    → OneSpelling family (drop at (codeRam family code)) d → Inside family code at (checkMarks marks at d)
 inside-of family code marks at (Decoded.Refused why) h s = tt
 inside-of family code marks at (Decoded.Instruction i n) h s =
     let ram = codeRam family code in

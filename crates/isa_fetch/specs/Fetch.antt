@@ -10,7 +10,6 @@ use Rattle.families.specs.Family.{codeSize}
 use Rattle.isa.specs.Opcode.{opcodeAt, sizeOf, isUnknown}
 use Rattle.isa.specs.Reader.{decodeOf, decodedNumber}
 use Rattle.isa.specs.Writer.{operandsFit}
-use Rattle.isa.specs.declared.instructions.Instruction.{Instruction}
 use Rattle.isa.specs.declared.reader.Decoded.{Decoded}
 use Rattle.refusals.specs.declared.refusals.Unreadable.{Unreadable}
 

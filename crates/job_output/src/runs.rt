@@ -50,7 +50,8 @@ fn audit_code<'a>(
     ranges: usize,
 ) -> Verdict
     requires { ⌜ (codeSize family ≤ length (now code)) × (codeSize family ≤ length (now marks)) × (2 * ranges ≤ length (now bounds)) × (ranges ≤ maxRanges) ⌝ }
-    ensures { λ r. ⌜ r ≡ auditOf (scriptOf family (codeRam family (now (code .entry))) (codeRam family (now (marks .entry))) (entry .0)) (take (2 * ranges) (now (bounds .entry))) ⌝ }
+    ensures { λ r. ⌜ r ≡ auditOf (scriptOf family (codeRam family (now (code .entry))) (codeRam family (now (marks .entry))) (entry .0)) (take (2 * ranges)
+        (now (bounds .entry))) ⌝ }
 {
     let size = families::code_size(family);
     let count = 2 * ranges;

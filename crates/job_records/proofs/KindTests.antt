@@ -153,7 +153,8 @@ module _ (rest : List ℕ) (counts : Counts) where
 pub unstored : {A : Type 0} (number : ℕ) (stored before : A) → (number ≡ 0 → ⊥) → before ≡ unlessRefused number stored before
 unstored number stored before h = rw (ne-eqb number 0 h)
 
-pub row-stored : (rest column : List ℕ) (n entry : ℕ) {word : ℕ} → byteAt rest 0 ≡ 1 → word ≡ entry → set column n word ≡ columnAfter (byteAt rest 0) n entry column
+pub row-stored : (rest column : List ℕ) (n entry : ℕ) {word : ℕ} → byteAt rest 0 ≡ 1 → word ≡ entry
+    → set column n word ≡ columnAfter (byteAt rest 0) n entry column
 unfolding columnAfter
 row-stored rest column n entry is e = rw (is, e)
 

@@ -7,7 +7,6 @@ use lib.Dec.{eqb}
 use lib.ListN.{length}
 use Rattle.log.specs.Log.{Log}
 use Rattle.machine_state.specs.Sequencer.{stateFrom}
-use Rattle.machine_state.specs.declared.sequencer.Sequencer.{Sequencer}
 use Rattle.machine_state.specs.declared.state.State.{State}
 use Rattle.job_records.specs.Job.{emptyJob, stateAfter, boundsAfter, columnAfter}
 use Rattle.job_records.specs.Reader.{readIn, Sound}

@@ -40,7 +40,8 @@ pub(crate) fn read_family(
     marks: &mut [u8; 512],
 ) -> StateRead
     requires { ⌜ byteAt (now rest) 0 ≡ family ⌝ }
-    ensures { λ r. ⌜ StateStored (now (rest .entry)) counts (stateFrom sequencer (now (code .entry)) (now (marks .entry))) (now (code .exit)) (now (marks .exit)) r ⌝ }
+    ensures { λ r. ⌜ StateStored (now (rest .entry)) counts (stateFrom sequencer (now (code .entry)) (now (marks .entry))) (now (code .exit)) (now
+        (marks .exit)) r ⌝ }
 {
     let number = shape_number(rest, FAMILY, counts);
     if number != 0 {
@@ -99,7 +100,8 @@ pub(crate) fn read_write(
     marks: &mut [u8; 512],
 ) -> StateRead
     requires { ⌜ byteAt (now rest) 0 ≡ hostWrite ⌝ }
-    ensures { λ r. ⌜ StateStored (now (rest .entry)) counts (stateFrom sequencer (now (code .entry)) (now (marks .entry))) (now (code .exit)) (now (marks .exit)) r ⌝ }
+    ensures { λ r. ⌜ StateStored (now (rest .entry)) counts (stateFrom sequencer (now (code .entry)) (now (marks .entry))) (now (code .exit)) (now
+        (marks .exit)) r ⌝ }
 {
     let number = shape_number(rest, HOST_WRITE, counts);
     if number != 0 {

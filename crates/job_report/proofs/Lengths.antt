@@ -11,7 +11,6 @@ use Rattle.log_coverage.specs.Coverage.{readingCount, lowestZero, firstMissing}
 use Rattle.log.specs.declared.place.Place.{Place}
 use Rattle.refusals.specs.Number.{faultNumber}
 use Rattle.run.specs.Run.{Write}
-use Rattle.refusals.specs.declared.refusals.Fault.{Fault}
 use Rattle.audit_verdict.specs.declared.verdicts.Verdict.{Verdict}
 use Rattle.run.specs.declared.answers.Ending.{Ending}
 use Rattle.job_records.specs.Job.{knownOf}
@@ -63,7 +62,12 @@ write-length address word = simp length-append (omega (arith, eight address, eig
 
 writes-length : (writes : List Write) → length (writeLines writes) ≡ 24 * length writes
 writes-length [] = omega arith
-writes-length (w ∷ writes) = omega (arith, length-append (writeLine (w .address) (w .word)) (writeLines writes), write-length (w .address) (w .word), writes-length writes)
+writes-length (w ∷ writes) = omega (
+  arith,
+  length-append (writeLine (w .address) (w .word)) (writeLines writes),
+  write-length (w .address) (w .word),
+  writes-length writes,
+)
 
 -- a row has 32 events
 ones-few : (n mask : ℕ) → onesIn n mask ≤ n
@@ -79,7 +83,12 @@ zero-low (suc n) mask = cond-elim (λ (m : ℕ). m ≤ suc n) (eqb (mask % 2) 0)
 row-length : (i known : ℕ) → length (rowLine i known) ≤ 43
 unfolding rowLine
 row-length i known =
-    simp length-append (omega (arith, short i, within (readingCount known) 2 (omega arith) (omega (arith, ones-few 32 known)), within (firstMissing known) 2 (omega arith) (omega (arith, zero-low 32 known))))
+    simp length-append (omega (
+      arith,
+      short i,
+      within (readingCount known) 2 (omega arith) (omega (arith, ones-few 32 known)),
+      within (firstMissing known) 2 (omega arith) (omega (arith, zero-low 32 known)),
+    ))
 
 rows-length : (i : ℕ) (known : List ℕ) → length (rowLines i known) ≤ 43 * length known
 rows-length i [] = omega arith

@@ -7,7 +7,6 @@ use lib.Dec.{eqb}
 use lib.ListN.{length, take, drop}
 use Rattle.isa.specs.declared.addresses.CodeAddress.{CodeAddress}
 use Rattle.refusals.specs.Number.{faultNumber}
-use Rattle.refusals.specs.declared.refusals.Fault.{Fault}
 use Rattle.audit_verdict.specs.declared.verdicts.Verdict.{Verdict}
 use Rattle.run.specs.Replay.{endingOf, progressOf}
 use Rattle.run.specs.declared.answers.Progress.{Progress}

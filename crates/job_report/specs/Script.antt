@@ -18,7 +18,7 @@ use Rattle.job_records.specs.declared.contents.Job.{Job}
 unfoldable pub verdictOf : Job → Verdict
 verdictOf j = auditOf (scriptIn (j .state)) (rangesOf j)
 
--- what its turns read: the family's code RAM and marks, HWSQ_ENABLE as it is, and the job's rows
+-- what its steps read: the family's code RAM and marks, HWSQ_ENABLE as it is, and the job's rows
 abbrev pub jobScene : Job → Scene
 jobScene j = scriptScene (scriptIn (j .state)) (j .state .enable) (logIn j)
 

@@ -36,13 +36,13 @@ tenth k n h = div-lt-iff-lt-mul (lit< tt) .1 (subst (λ (m : ℕ). n < m) (pow-s
 
 -- ---- written from the last digit to the first: what stands in the array from `first` on, behind the digits still to come
 
-pub turn : (text : List ℕ) (first rest : ℕ)
+pub next-digit : (text : List ℕ) (first rest : ℕ)
     → 0 < first
     → first ≤ length text
     → 10 ≤ rest
     → decimalIn (first - 1) (rest / 10) ++ drop (first - 1) (set text (first - 1) (digit (rest % 10))) ≡ decimalIn first rest ++ drop first text
-turn text zero rest p h k = absurd (let z : ⊥ = omega arith in z)
-turn text (suc j) rest p h k =
+next-digit text zero rest p h k = absurd (let z : ⊥ = omega arith in z)
+next-digit text (suc j) rest p h k =
     ap (λ (m : ℕ). decimalIn m (rest / 10) ++ drop m (set text m (digit (rest % 10)))) (less j)
     ∙ ap (λ (l : List ℕ). decimalIn j (rest / 10) ++ l) (stored text j (digit (rest % 10)) (omega arith))
     ∙ sym (append-assoc (decimalIn j (rest / 10)) (digit (rest % 10) ∷ []) (drop (suc j) text))

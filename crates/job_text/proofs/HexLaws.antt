@@ -8,13 +8,13 @@ use Rattle.job_text.proofs.Backwards.{less, stored}
 use Rattle.job_text.specs.Digits.{hexDigit, hexIn, hexWord}
 
 -- what stands in the array from `first` on, behind the digits still to come
-pub turn : (text : List ℕ) (first rest : ℕ)
+pub next-digit : (text : List ℕ) (first rest : ℕ)
     → 0 < first
     → first ≤ length text
     → hexIn (first - 1) (rest / 16) ++ drop (first - 1) (set text (first - 1) (hexDigit rest)) ≡ hexIn first rest ++ drop first text
 unfolding hexIn
-turn text zero rest p h = absurd (let z : ⊥ = omega arith in z)
-turn text (suc j) rest p h =
+next-digit text zero rest p h = absurd (let z : ⊥ = omega arith in z)
+next-digit text (suc j) rest p h =
     ap (λ (m : ℕ). hexIn m (rest / 16) ++ drop m (set text m (hexDigit rest))) (less j)
     ∙ ap (λ (l : List ℕ). hexIn j (rest / 16) ++ l) (stored text j (hexDigit rest) (omega arith))
     ∙ sym (append-assoc (hexIn j (rest / 16)) (hexDigit rest ∷ []) (drop (suc j) text))

@@ -1,7 +1,6 @@
 -- The ten instructions in six classes (01, "Instructions").
 use Prim.Native.Nat.{ℕ, _+_, _*_, _/_, _%_}
 use Rattle.isa.specs.Wait.{waitClocks}
-use Rattle.isa.specs.declared.addresses.MmioAddress.{MmioAddress}
 use Rattle.isa.specs.declared.instructions.Instruction.{Instruction}
 use Rattle.machine_actions.specs.declared.actions.Action.{Action}
 use Rattle.machine_flags.specs.declared.flags.Change.{Change}

@@ -3,7 +3,6 @@ ghost use mathlib.Core.Path.{_≡_};
 ghost use Rattle.machine_actions.specs.Action.{actionOf, mergeOf};
 use crate::clocks::wait_clocks;
 use isa::Instruction;
-use isa::MmioAddress;
 use machine_flags::Change;
 
 // Whether an operand is a whole word, or its low half.

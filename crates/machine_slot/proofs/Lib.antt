@@ -1,2 +1,2 @@
 mod Others
-pub mod TurnLaws
+pub mod SlotStepLaws

@@ -2,7 +2,7 @@
 use Prim.Native.Nat.{ℕ}
 use mathlib.Core.Path.{_≡_, refl}
 use mathlib.Core.Bool.{Bool}
-use mathlib.Core.List.{List, [], _∷_}
+use mathlib.Core.List.{[], _∷_}
 use denote.Enum.Declared.{tagOf}
 use types.Run.{OneOf}
 use Rattle.machine_actions.proofs.Variants.{none}
@@ -14,8 +14,8 @@ use Rattle.refusals.specs.declared.refusals.Unreadable.{Unreadable}
 use Rattle.refusals.proofs.refusals.Unreadable.{the-type as reason-type}
 use Rattle.machine_state.specs.declared.slots.Mode.{Mode}
 use Rattle.machine_state.specs.declared.slots.Slot.{Slot}
-use Rattle.machine_slot.specs.Turn.{modeAfter, ipAfter, addrAfter, dataAfter, flagsAfter, effectOf, sameTurn, unfetchedAt}
-use Rattle.machine_slot.specs.declared.turn.Effect.{Effect}
+use Rattle.machine_slot.specs.SlotStep.{modeAfter, ipAfter, addrAfter, dataAfter, flagsAfter, effectOf, sameSlotStep, unfetchedAt}
+use Rattle.machine_slot.specs.declared.slot_steps.Effect.{Effect}
 
 pub runs-on : (a : Action) (enable finished : Bool) → OneOf (2 ∷ 3 ∷ []) (tagOf action-type a) → Mode.Running ≡ modeAfter a enable finished
 runs-on (Action.Wait n) enable finished h = none (2 ∷ 3 ∷ []) 0 tt h
@@ -41,7 +41,8 @@ addr-stays (Action.Load part operand) addr h = refl
 addr-stays (Action.Poke part operand) addr h = none (0 ∷ 1 ∷ 2 ∷ 3 ∷ 5 ∷ []) 4 tt h
 addr-stays Action.Exit addr h = refl
 
-pub writes-nothing : (a : Action) (enable : Bool) (addr word : ℕ) → OneOf (0 ∷ 1 ∷ 2 ∷ 3 ∷ 5 ∷ []) (tagOf action-type a) → Effect.Done ≡ effectOf a enable addr word
+pub writes-nothing : (a : Action) (enable : Bool) (addr word : ℕ) → OneOf (0 ∷ 1 ∷ 2 ∷ 3 ∷ 5 ∷ []) (tagOf action-type a)
+    → Effect.Done ≡ effectOf a enable addr word
 writes-nothing (Action.Wait n) enable addr word h = refl
 writes-nothing (Action.Ewait event value) enable addr word h = refl
 writes-nothing (Action.Flag change flag) enable addr word h = refl
@@ -66,7 +67,7 @@ flags-stay (Action.Poke part operand) flags h = refl
 flags-stay Action.Exit flags h = refl
 
 pub stops : (why : Unreadable) (family : ℕ) (slot : Slot) (flags : Flags) (p : Place) (next : ℕ) → OneOf (0 ∷ 1 ∷ 3 ∷ 4 ∷ []) (tagOf reason-type why)
-    → sameTurn slot flags p (Effect.Stopped why) ≡ unfetchedAt family slot flags p next why
+    → sameSlotStep slot flags p (Effect.Stopped why) ≡ unfetchedAt family slot flags p next why
 stops Unreadable.Family family slot flags p next h = refl
 stops Unreadable.Empty family slot flags p next h = refl
 stops Unreadable.Unknown family slot flags p next h = none (0 ∷ 1 ∷ 3 ∷ 4 ∷ []) 2 tt h

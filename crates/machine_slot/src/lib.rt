@@ -1,7 +1,7 @@
 // What one fetched instruction does to its slot, the flags and the place in the log.
-mod turn;
+mod slot_steps;
 
-pub use turn::Effect;
-pub use turn::Turn;
-pub use turn::perform;
-pub use turn::unfetched;
+pub use slot_steps::Effect;
+pub use slot_steps::SlotStep;
+pub use slot_steps::perform;
+pub use slot_steps::unfetched;

@@ -42,5 +42,29 @@ slotOf s SlotName.B = s .b
 
 -- the state with another slot and other flags
 abbrev pub withSlot : State → SlotName → Slot → Flags → State
-withSlot s SlotName.A slot flags = record { family = s .family; code = s .code; marks = s .marks; flags = flags; enable = s .enable; «override_mode» = s .«override_mode»; entries = s .entries; «entries_high» = s .«entries_high»; a = slot; b = s .b }
-withSlot s SlotName.B slot flags = record { family = s .family; code = s .code; marks = s .marks; flags = flags; enable = s .enable; «override_mode» = s .«override_mode»; entries = s .entries; «entries_high» = s .«entries_high»; a = s .a; b = slot }
+withSlot s SlotName.A slot flags = record {
+  family = s .family;
+  code = s .code;
+  marks = s .marks;
+  flags = flags;
+  enable = s .enable;
+  «override_mode» = s
+      .«override_mode»;
+  entries = s .entries;
+  «entries_high» = s .«entries_high»;
+  a = slot;
+  b = s .b;
+}
+withSlot s SlotName.B slot flags = record {
+  family = s .family;
+  code = s .code;
+  marks = s .marks;
+  flags = flags;
+  enable = s .enable;
+  «override_mode» = s
+      .«override_mode»;
+  entries = s .entries;
+  «entries_high» = s .«entries_high»;
+  a = s .a;
+  b = slot;
+}

@@ -1,3 +1,3 @@
 mod Taken
 pub mod StepLaws
-pub mod TakenTurns
+pub mod TakenSlotSteps

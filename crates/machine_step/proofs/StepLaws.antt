@@ -15,8 +15,8 @@ use Rattle.log.specs.Log.{Log}
 use Rattle.log.specs.Validity.{validLog, validPlace}
 use Rattle.log.specs.declared.place.Place.{Place}
 use Rattle.machine_state.specs.Slot.{hasSlot, isRunning, slotOf}
-use Rattle.machine_step.specs.Step.{unmoved, afterTurn, advanceOf, stepOf}
-use Rattle.machine_slot.specs.Turn.{unfetchedAt, unfetched, turnOf}
+use Rattle.machine_step.specs.Step.{unmoved, afterSlotStep, advanceOf, stepOf}
+use Rattle.machine_slot.specs.SlotStep.{unfetchedAt, unfetched, slotStepOf}
 use Rattle.machine_step.specs.Promises.{Keeps, Passes, Steps, effectNumber, stepRefusal}
 use Rattle.machine_flags.specs.declared.flags.Flags.{Flags}
 use Rattle.machine_state.specs.declared.slots.SlotName.{SlotName}
@@ -24,10 +24,10 @@ use Rattle.machine_state.specs.declared.slots.Slot.{Slot}
 use Rattle.machine_state.specs.declared.state.State.{State}
 use Rattle.machine_step.specs.declared.steps.Stepped.{Stepped}
 use Rattle.refusals.specs.declared.refusals.Unsteppable.{Unsteppable}
-use Rattle.machine_slot.specs.declared.turn.Effect.{Effect}
-use Rattle.machine_slot.specs.declared.turn.Turn.{Turn}
-use Rattle.machine_slot.proofs.TurnLaws.{turn-clocks, turn-place}
-use Rattle.machine_step.proofs.Taken.{turn-taken}
+use Rattle.machine_slot.specs.declared.slot_steps.Effect.{Effect}
+use Rattle.machine_slot.specs.declared.slot_steps.SlotStep.{SlotStep}
+use Rattle.machine_slot.proofs.SlotStepLaws.{slot-step-clocks, slot-step-place}
+use Rattle.machine_step.proofs.Taken.{slot-step-taken}
 
 -- ---- what a step is
 
@@ -36,25 +36,25 @@ abbrev fetchedAt : State → SlotName → Decoded
 fetchedAt s name = fetchOf (s .family) (s .code) (s .marks) (slotOf s name .ip .0)
 
 module _ (s : State) (name : SlotName) (log : Log) (p : Place) where
-  -- the turn that the slot takes if it runs
-  abbrev turnAt : Turn
-  turnAt = turnOf (s .family) (s .enable) (slotOf s name) (s .flags) log p (fetchedAt s name)
+  -- the step that the slot takes if it runs
+  abbrev slotStepAt : SlotStep
+  slotStepAt = slotStepOf (s .family) (s .enable) (slotOf s name) (s .flags) log p (fetchedAt s name)
 
-  advance-elim : (P : Stepped → Type 0) → P (unmoved s p Effect.Nothing) → (isRunning (slotOf s name .mode) ≡ true → P (afterTurn s name turnAt))
+  advance-elim : (P : Stepped → Type 0) → P (unmoved s p Effect.Nothing) → (isRunning (slotOf s name .mode) ≡ true → P (afterSlotStep s name slotStepAt))
       → P (advanceOf s name log p)
   unfolding advanceOf
-  advance-elim P still turn =
+  advance-elim P still step =
       cond-elim P (hasSlot (s .family) name && isRunning (slotOf s name .mode))
-      (λ h. turn (both-right (hasSlot (s .family) name) (isRunning (slotOf s name .mode)) h))
+      (λ h. step (both-right (hasSlot (s .family) name) (isRunning (slotOf s name .mode)) h))
       (λ _. still)
 
-  -- a step is refused, or nothing, or a turn of a slot that runs
+  -- a step is refused, or nothing, or a step of a slot that runs
   step-elim : (P : Stepped → Type 0) → ((why : Unsteppable) → P (unmoved s p (Effect.Refused why))) → P (unmoved s p Effect.Nothing)
-      → (isRunning (slotOf s name .mode) ≡ true → P (afterTurn s name turnAt)) → P (stepOf s name log p)
+      → (isRunning (slotOf s name .mode) ≡ true → P (afterSlotStep s name slotStepAt)) → P (stepOf s name log p)
   unfolding stepOf
-  step-elim P refused still turn =
+  step-elim P refused still step =
       cond-elim P (knownFamily (s .family))
-      (λ _. cond-elim P (validLog log && validPlace (log .clocks) p) (λ _. advance-elim P still turn) (λ _. refused Unsteppable.Log))
+      (λ _. cond-elim P (validLog log && validPlace (log .clocks) p) (λ _. advance-elim P still step) (λ _. refused Unsteppable.Log))
       (λ _. refused Unsteppable.Family)
 
 -- ---- what a step keeps and what it passes
@@ -62,9 +62,29 @@ module _ (s : State) (name : SlotName) (log : Log) (p : Place) where
 keeps-all : (name : SlotName) (s : State) → Keeps name s s
 keeps-all name s = record { family = refl; code = refl; marks = refl; enable = refl; override = refl; entries = refl; entries-high = refl; other = refl }
 
-keeps-turn : (s : State) (name : SlotName) (t : Turn) → Keeps name s (afterTurn s name t .state)
-keeps-turn s SlotName.A t = record { family = refl; code = refl; marks = refl; enable = refl; override = refl; entries = refl; entries-high = refl; other = refl }
-keeps-turn s SlotName.B t = record { family = refl; code = refl; marks = refl; enable = refl; override = refl; entries = refl; entries-high = refl; other = refl }
+keeps-slot-step : (s : State) (name : SlotName) (t : SlotStep) → Keeps name s (afterSlotStep s name t .state)
+keeps-slot-step s SlotName.A t = record {
+  family = refl;
+  code = refl;
+  marks = refl;
+  enable = refl;
+  override = refl;
+  entries = refl;
+  entries-high = refl;
+  other
+      = refl;
+}
+keeps-slot-step s SlotName.B t = record {
+  family = refl;
+  code = refl;
+  marks = refl;
+  enable = refl;
+  override = refl;
+  entries = refl;
+  entries-high = refl;
+  other
+      = refl;
+}
 
 module _ (s : State) (name : SlotName) (log : Log) (p : Place) where
   -- what a step may come to
@@ -75,12 +95,12 @@ module _ (s : State) (name : SlotName) (log : Log) (p : Place) where
   still-law : (effect : Effect) → Law (unmoved s p effect)
   still-law effect = record { keeps = keeps-all name s; passes = record { stays = λ valid v. v; clocked = λ valid. omega arith } }
 
-  turn-law : Law (afterTurn s name (turnAt s name log p))
-  turn-law = record {
-    keeps = keeps-turn s name (turnAt s name log p);
+  slot-step-law : Law (afterSlotStep s name (slotStepAt s name log p))
+  slot-step-law = record {
+    keeps = keeps-slot-step s name (slotStepAt s name log p);
     passes = record {
-      stays = λ valid v. turn-place log valid (s .family) (s .enable) (slotOf s name) (s .flags) p (fetchedAt s name) v;
-      clocked = λ valid. turn-clocks log valid (s .family) (s .enable) (slotOf s name) (s .flags) p (fetchedAt s name);
+      stays = λ valid v. slot-step-place log valid (s .family) (s .enable) (slotOf s name) (s .flags) p (fetchedAt s name) v;
+      clocked = λ valid. slot-step-clocks log valid (s .family) (s .enable) (slotOf s name) (s .flags) p (fetchedAt s name);
     };
   }
 
@@ -90,20 +110,21 @@ module _ (s : State) (name : SlotName) (log : Log) (p : Place) where
     unfolding advanceOf
     advance-still h = let g : (hasSlot (s .family) name && isRunning (slotOf s name .mode)) ≡ false = rw is at h in simp g
 
-    pub advance-turn : (hasSlot (s .family) name && isRunning (slot .mode)) ≡ true → (found : Decoded) → found ≡ fetchOf (s .family) (s .code) (s .marks) (slot .ip .0)
-        → (t : Turn) → t ≡ turnOf (s .family) (s .enable) slot (s .flags) log p found → afterTurn s name t ≡ advanceOf s name log p
+    pub advance-slot-step : (hasSlot (s .family) name && isRunning (slot .mode)) ≡ true → (found : Decoded)
+        → found ≡ fetchOf (s .family) (s .code) (s .marks) (slot .ip .0)
+        → (t : SlotStep) → t ≡ slotStepOf (s .family) (s .enable) slot (s .flags) log p found → afterSlotStep s name t ≡ advanceOf s name log p
     unfolding advanceOf
-    advance-turn h found f t e =
+    advance-slot-step h found f t e =
         let g : (hasSlot (s .family) name && isRunning (slotOf s name .mode)) ≡ true = rw is at h in
         simp g (rw (e, f, is))
 
   advance-number : effectNumber (advanceOf s name log p .effect) ≡ 0
   advance-number =
       advance-elim s name log p (λ (t : Stepped). effectNumber (t .effect) ≡ 0) refl
-      (λ _. turn-taken (s .family) (s .enable) (slotOf s name) (s .flags) log p (fetchedAt s name))
+      (λ _. slot-step-taken (s .family) (s .enable) (slotOf s name) (s .flags) log p (fetchedAt s name))
 
   step-law : Law (stepOf s name log p)
-  step-law = step-elim s name log p Law (λ why. still-law (Effect.Refused why)) (still-law Effect.Nothing) (λ _. turn-law)
+  step-law = step-elim s name log p Law (λ why. still-law (Effect.Refused why)) (still-law Effect.Nothing) (λ _. slot-step-law)
 
   step-number : effectNumber (stepOf s name log p .effect) ≡ stepRefusal (s .family) log p
   unfolding stepOf stepRefusal
@@ -126,7 +147,8 @@ module _ (s : State) (name : SlotName) (log : Log) (p : Place) where
       }
 
 -- past an unknown opcode is the next place, since an opcode lies in the code RAM
-pub unfetched-past : (family : ℕ) (code marks : List ℕ) (slot : Slot) (flags : Flags) (p : Place) (why : Unreadable) → fetchOf family code marks (slot .ip .0) ≡ Decoded.Refused why
+pub unfetched-past : (family : ℕ) (code marks : List ℕ) (slot : Slot) (flags : Flags) (p : Place) (why : Unreadable)
+    → fetchOf family code marks (slot .ip .0) ≡ Decoded.Refused why
     → unfetchedAt family slot flags p (pastOpcode (slot .ip .0)) why ≡ unfetched family slot flags p why
 unfetched-past family code marks slot flags p Unreadable.Family e = refl
 unfetched-past family code marks slot flags p Unreadable.Empty e = refl

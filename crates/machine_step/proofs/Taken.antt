@@ -1,4 +1,4 @@
--- No turn is a refusal. Assumes nothing.
+-- No step is a refusal. Assumes nothing.
 use Prim.Native.Nat.{ℕ}
 use mathlib.Core.Path.{_≡_, refl}
 use mathlib.Core.Bool.{Bool, true, false}
@@ -7,7 +7,7 @@ use Rattle.refusals.specs.declared.refusals.Unreadable.{Unreadable}
 use Rattle.log.specs.Log.{Log}
 use Rattle.log.specs.declared.place.Place.{Place}
 use Rattle.machine_actions.specs.Action.{actionOf}
-use Rattle.machine_slot.specs.Turn.{effectOf, performOf, unfetched, turnOf}
+use Rattle.machine_slot.specs.SlotStep.{effectOf, performOf, unfetched, slotStepOf}
 use Rattle.machine_step.specs.Promises.{effectNumber}
 use Rattle.machine_actions.specs.declared.actions.Action.{Action}
 use Rattle.machine_flags.specs.declared.flags.Flags.{Flags}
@@ -29,9 +29,9 @@ unfetched-taken family slot flags p Unreadable.Unknown = refl
 unfetched-taken family slot flags p Unreadable.Short = refl
 unfetched-taken family slot flags p Unreadable.NotUploaded = refl
 
-pub turn-taken : (family : ℕ) (enable : Bool) (slot : Slot) (flags : Flags) (log : Log) (p : Place) (fetched : Decoded)
-    → effectNumber (turnOf family enable slot flags log p fetched .effect) ≡ 0
+pub slot-step-taken : (family : ℕ) (enable : Bool) (slot : Slot) (flags : Flags) (log : Log) (p : Place) (fetched : Decoded)
+    → effectNumber (slotStepOf family enable slot flags log p fetched .effect) ≡ 0
 unfolding performOf
-turn-taken family enable slot flags log p (Decoded.Instruction instruction n) =
+slot-step-taken family enable slot flags log p (Decoded.Instruction instruction n) =
     action-taken (actionOf instruction) enable (slot .addr .0) (slot .«data»)
-turn-taken family enable slot flags log p (Decoded.Refused why) = unfetched-taken family slot flags p why
+slot-step-taken family enable slot flags log p (Decoded.Refused why) = unfetched-taken family slot flags p why

@@ -13,7 +13,7 @@ use Rattle.machine_step.specs.Step.{stepOf}
 use Rattle.machine_state.specs.declared.slots.SlotName.{SlotName}
 use Rattle.machine_state.specs.declared.state.State.{State}
 use Rattle.machine_step.specs.declared.steps.Stepped.{Stepped}
-use Rattle.machine_slot.specs.declared.turn.Effect.{Effect}
+use Rattle.machine_slot.specs.declared.slot_steps.Effect.{Effect}
 
 -- a step of a slot leaves the family, code, marks, control, entry points and the other slot alone
 pub record Keeps (name : SlotName) (s t : State) : Type 0 where

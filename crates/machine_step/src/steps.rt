@@ -2,7 +2,7 @@
 ghost use mathlib.Core.Path.{_≡_};
 ghost use mathlib.Core.Bool.{_&&_};
 ghost use Rattle.machine_state.specs.Slot.{hasSlot, isRunning};
-ghost use Rattle.machine_step.specs.Step.{afterTurn, advanceOf};
+ghost use Rattle.machine_step.specs.Step.{afterSlotStep, advanceOf};
 ghost use Rattle.machine_step.specs.Step.{unmoved as Step·unmoved};
 ghost use Rattle.log.specs.Log.{logOf};
 ghost use Rattle.log.specs.Validity.{validLog, validPlace};
@@ -12,7 +12,7 @@ use isa::Decoded;
 use log::Place;
 use machine_actions::action_of;
 use machine_slot::Effect;
-use machine_slot::Turn;
+use machine_slot::SlotStep;
 use machine_slot::perform;
 use machine_slot::unfetched;
 use machine_state::Mode;
@@ -80,11 +80,11 @@ fn advance<'a>(
         let why = isa_fetch::reason_of(found);
         let next = isa_fetch::past_opcode(ip);
         let stray = unfetched(state.family, slot, flags, at, next, why);
-        return after_turn(state, name, stray);
+        return after_slot_step(state, name, stray);
     };
     let action = action_of(instruction);
     let elapsed = elapse(action, clocks, known, values, at);
-    let turn = perform(
+    let step = perform(
         state.enable,
         slot,
         flags,
@@ -92,7 +92,7 @@ fn advance<'a>(
         CodeAddress(ip.0 + length),
         elapsed,
     );
-    after_turn(state, name, turn)
+    after_slot_step(state, name, step)
 }
 
 fn can_run(family: u8, name: SlotName, mode: Mode) -> bool
@@ -119,19 +119,19 @@ fn unmoved(state: State, place: Place, effect: Effect) -> Stepped
     }
 }
 
-fn after_turn(state: State, name: SlotName, turn: Turn) -> Stepped
-    ensures { λ r. ⌜ r ≡ afterTurn state name turn ⌝ }
+fn after_slot_step(state: State, name: SlotName, step: SlotStep) -> Stepped
+    ensures { λ r. ⌜ r ≡ afterSlotStep state name step ⌝ }
 {
-    let slot = turn.slot;
-    let flags = turn.flags;
-    let place = turn.place;
-    let effect = turn.effect;
+    let slot = step.slot;
+    let flags = step.flags;
+    let place = step.place;
+    let effect = step.effect;
     let next = with_slot(state, name, slot, flags);
     Stepped {
         state: next,
         place,
         effect,
-        waited: turn.waited,
-        searched: turn.searched,
+        waited: step.waited,
+        searched: step.searched,
     }
 }

@@ -1,5 +1,5 @@
 -- Laws of patterns and floats: the records of specs/Pattern from their answers. Assumes nothing.
-use mathlib.Core.Path.{_≡_, refl, sym, _∙_, subst}
+use mathlib.Core.Path.{_≡_, refl, sym, subst}
 use mathlib.Core.Bool.{Bool, true, false, not, cond}
 use Prim.Native.Nat.{ℕ, _*_, _<_}
 use borrow.Author.Tests.{eq-eqb}
@@ -33,7 +33,8 @@ zero-by-zero = refl
 -- ---- patterns
 
 -- a pattern that is no NaN's is written again as it was
-again : (bits : ℕ) → bits < 2 * top binary32 → (t : Bool) → isNan (floatOf bits) ≡ t → cond t nanPattern (toBits binary32 (floatOf bits)) ≡ cond t nanPattern bits
+again : (bits : ℕ) → bits < 2 * top binary32 → (t : Bool) → isNan (floatOf bits) ≡ t
+    → cond t nanPattern (toBits binary32 (floatOf bits)) ≡ cond t nanPattern bits
 again bits small true h = refl
 again bits small false h = toBits-ofBits binary32 bits small (subst (λ (t : Bool). T (not t)) (sym h) tt)
 

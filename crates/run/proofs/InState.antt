@@ -12,16 +12,16 @@ use Rattle.machine_state.specs.Slot.{hasSlot, isRunning, slotOf}
 use Rattle.machine_state.specs.declared.slots.Slot.{Slot}
 use Rattle.machine_state.specs.declared.slots.SlotName.{SlotName}
 use Rattle.machine_state.specs.declared.state.State.{State}
-use Rattle.machine_step.specs.Step.{afterTurn, advanceOf, stepOf}
+use Rattle.machine_step.specs.Step.{afterSlotStep, advanceOf, stepOf}
 use Rattle.run.specs.Run.{begun, nextStep, runFor}
-use Rattle.run.specs.SlotRun.{Scene, SlotRun, slotBegun, tookTurn, nextTurn, slotRunFor, sceneOf, inState, slotRunOf, Holds}
+use Rattle.run.specs.SlotRun.{Scene, SlotRun, slotBegun, tookSlotStep, nextSlotStep, slotRunFor, sceneOf, inState, slotRunOf, Holds}
 use Rattle.run.specs.Replay.{fullSteps, fullSlotRun, fullRun, FollowsSteps}
-use Rattle.run.proofs.SlotRuns.{next-place, slot-place, same-turn, same-run}
+use Rattle.run.proofs.SlotRuns.{next-place, slot-place, same-slot-step, same-run}
 
 module _ (s : State) (log : Log) (family : knownFamily (s .family) ≡ true) (valid : validLog log ≡ true) where
   -- one step, by the slot's name and by whether it runs
   step-by : (name : SlotName) → hasSlot (s .family) name ≡ true → (r : SlotRun) → validPlace (log .clocks) (r .place) ≡ true
-      → (runs : Bool) → isRunning (r .slot .mode) ≡ runs → nextStep name log (inState s name r) ≡ afterTurn s name (nextTurn (sceneOf s log) r)
+      → (runs : Bool) → isRunning (r .slot .mode) ≡ runs → nextStep name log (inState s name r) ≡ afterSlotStep s name (nextSlotStep (sceneOf s log) r)
   unfolding stepOf advanceOf
   step-by SlotName.A has r v true m = simp (family, valid, v, has, m)
   step-by SlotName.A has r v false m = simp (family, valid, v, has, m)
@@ -30,7 +30,7 @@ module _ (s : State) (log : Log) (family : knownFamily (s .family) ≡ true) (va
 
   module _ (name : SlotName) (has : hasSlot (s .family) name ≡ true) where
     step-in-state : (r : SlotRun) → validPlace (log .clocks) (r .place) ≡ true
-        → nextStep name log (inState s name r) ≡ afterTurn s name (nextTurn (sceneOf s log) r)
+        → nextStep name log (inState s name r) ≡ afterSlotStep s name (nextSlotStep (sceneOf s log) r)
     step-in-state r v = step-by name has r v (isRunning (r .slot .mode)) refl
 
     pub run-in-state : (n : ℕ) (r : SlotRun) → validPlace (log .clocks) (r .place) ≡ true
@@ -39,7 +39,7 @@ module _ (s : State) (log : Log) (family : knownFamily (s .family) ≡ true) (va
     run-in-state zero r v = refl
     run-in-state (suc n) r v =
         rw (step-in-state r v)
-        (run-in-state n (tookTurn r (nextTurn (sceneOf s log) r)) (next-place (sceneOf s log) valid r v))
+        (run-in-state n (tookSlotStep r (nextSlotStep (sceneOf s log) r)) (next-place (sceneOf s log) valid r v))
 
   pub begun-in-state : (name : SlotName) → begun s ≡ inState s name (slotBegun (slotOf s name) (s .flags))
   begun-in-state SlotName.A = refl
@@ -63,14 +63,14 @@ module _ (x : Scene) (slot : Slot) (flags : Flags) where
       ∙ ap (inState s name) same
 
   module _ (name : SlotName) (s : State) (h : Holds x slot flags name s) (valid : validLog (x .log) ≡ true) where
-    -- the step that comes next is the turn that comes next
+    -- the step that comes next is the step that comes next
     pub next-follows : (n : ℕ)
-        → nextStep name (x .log) (runFor name (x .log) n (begun s)) ≡ afterTurn s name (nextTurn x (slotRunFor x n (slotBegun slot flags)))
+        → nextStep name (x .log) (runFor name (x .log) n (begun s)) ≡ afterSlotStep s name (nextSlotStep x (slotRunFor x n (slotBegun slot flags)))
     next-follows n =
         let r = slotRunFor x n (slotBegun slot flags) in
         ap (nextStep name (x .log)) (follows name s h valid n)
         ∙ step-in-state s (x .log) (h .known-family) valid name (h .slot-there) r (slot-place x valid slot flags n)
-        ∙ ap (afterTurn s name) (same-turn (sceneOf s (x .log)) x (h .same-scene) r)
+        ∙ ap (afterSlotStep s name) (same-slot-step (sceneOf s (x .log)) x (h .same-scene) r)
 
     -- the whole run
     pub full-follows : fullRun name (x .log) s ≡ inState s name (fullSlotRun x slot flags)
@@ -78,7 +78,7 @@ module _ (x : Scene) (slot : Slot) (flags : Flags) where
         follows name s h valid (fullSteps (s .family))
         ∙ ap (λ (family : ℕ). inState s name (slotRunFor x (fullSteps family) (slotBegun slot flags))) (h .same-scene .family)
 
-    pub full-next-follows : nextStep name (x .log) (fullRun name (x .log) s) ≡ afterTurn s name (nextTurn x (fullSlotRun x slot flags))
+    pub full-next-follows : nextStep name (x .log) (fullRun name (x .log) s) ≡ afterSlotStep s name (nextSlotStep x (fullSlotRun x slot flags))
     full-next-follows =
         next-follows (fullSteps (s .family))
-        ∙ ap (λ (family : ℕ). afterTurn s name (nextTurn x (slotRunFor x (fullSteps family) (slotBegun slot flags)))) (h .same-scene .family)
+        ∙ ap (λ (family : ℕ). afterSlotStep s name (nextSlotStep x (slotRunFor x (fullSteps family) (slotBegun slot flags)))) (h .same-scene .family)

@@ -32,7 +32,7 @@ use Rattle.run.proofs.FilledReadings.{NoLess, filled-logs}
 -- ---- of a slot's run
 
 module _ (x : Scene) (slot : Slot) (flags : Flags) (valid : validLog (x .log) ≡ true) (n : ℕ) where
-  -- so many turns under a log
+  -- so many steps under a log
   abbrev ran : Log → SlotRun
   ran log = slotRunFor (withLog x log) n (slotBegun slot flags)
 
@@ -75,7 +75,7 @@ module _ (name : SlotName) (s : State) where
   no-run log lacks (suc n) = ap (runFor name log n) (no-step log lacks) ∙ no-run log lacks n
 
   module _ (has : hasSlot (s .family) name ≡ true) where
-    -- what its slot does in so many turns under a log
+    -- what its slot does in so many steps under a log
     abbrev slotRun : Log → ℕ → SlotRun
     slotRun log n = slotRunFor (sceneOf s log) n (slotBegun (slotOf s name) (s .flags))
 

@@ -15,7 +15,7 @@ use Rattle.log_waits.specs.Left.{leftIn}
 use Rattle.log_ewaits.specs.Ewait.{bitOf, hasReading, searchIn}
 use Rattle.log.specs.Log.{logOf}
 use Rattle.log.specs.Validity.{validLog, validPlace}
-use Rattle.machine_slot.specs.Turn.{performOf}
+use Rattle.machine_slot.specs.SlotStep.{performOf}
 use Rattle.machine_state.specs.declared.slots.SlotName.{SlotName}
 use Rattle.machine_step.specs.Step.{advanceOf, stepOf}
 use Rattle.run.specs.Run.{runFor}

@@ -1,4 +1,4 @@
--- A run settles: after one turn more than the code RAM has bytes no turn fetches, and further turns change nothing. Assumes nothing.
+-- A run settles: after one step more than the code RAM has bytes no step fetches, and further steps change nothing. Assumes nothing.
 use Prim.Native.Nat.{ℕ, zero, suc, _+_, _<_, _≤_}
 use mathlib.Core.Path.{_≡_, refl, ap, sym, subst, _∙_}
 use mathlib.Core.Logic.{_⊎_, inl, inr}
@@ -15,22 +15,22 @@ use Rattle.log.specs.declared.place.Place.{Place}
 use Rattle.machine_actions.specs.Action.{actionOf}
 use Rattle.machine_state.specs.Slot.{isRunning}
 use Rattle.machine_time.specs.Time.{elapsedOf}
-use Rattle.machine_slot.specs.Turn.{effectOf, ipAfter, modeAfter, performOf, sameTurn, turnOf}
+use Rattle.machine_slot.specs.SlotStep.{effectOf, ipAfter, modeAfter, performOf, sameSlotStep, slotStepOf}
 use Rattle.machine_actions.specs.declared.actions.Action.{Action}
 use Rattle.machine_flags.specs.declared.flags.Flags.{Flags}
 use Rattle.machine_state.specs.declared.slots.Mode.{Mode}
 use Rattle.machine_state.specs.declared.slots.Slot.{Slot}
-use Rattle.machine_slot.specs.declared.turn.Effect.{Effect}
-use Rattle.machine_slot.specs.declared.turn.Turn.{Turn}
+use Rattle.machine_slot.specs.declared.slot_steps.Effect.{Effect}
+use Rattle.machine_slot.specs.declared.slot_steps.SlotStep.{SlotStep}
 use Rattle.run.specs.Replay.{fullSteps, fullSlotRun}
 use Rattle.run.specs.Run.{fetchedBy}
-use Rattle.run.specs.SlotRun.{Scene, fetchIn, SlotRun, slotBegun, tookTurn, turnFrom, nextTurn, slotRunFor}
-use Rattle.run.proofs.SlotRuns.{slot-add, turn-elim}
+use Rattle.run.specs.SlotRun.{Scene, fetchIn, SlotRun, slotBegun, tookSlotStep, slotStepFrom, nextSlotStep, slotRunFor}
+use Rattle.run.proofs.SlotRuns.{slot-add, slot-step-elim}
 
--- ---- a turn that fetches moves IP on, or ends the script; any other changes nothing
+-- ---- a step that fetches moves IP on, or ends the script; any other changes nothing
 
-data Moves (ip : ℕ) (slot : Slot) (flags : Flags) (p : Place) (t : Turn) : Type 0 where
-  rests : (effect : Effect) → fetchedBy effect ≡ 0 → t ≡ sameTurn slot flags p effect → Moves ip slot flags p t
+data Moves (ip : ℕ) (slot : Slot) (flags : Flags) (p : Place) (t : SlotStep) : Type 0 where
+  rests : (effect : Effect) → fetchedBy effect ≡ 0 → t ≡ sameSlotStep slot flags p effect → Moves ip slot flags p t
   goes-on : fetchedBy (t .effect) ≡ 1 → ip < t .slot .ip .0 → Moves ip slot flags p t
   exits : fetchedBy (t .effect) ≡ 1 → t .slot .mode ≡ Mode.Idle → Moves ip slot flags p t
 
@@ -66,28 +66,28 @@ module _ (family : ℕ) (enable : Bool) (slot : Slot) (flags : Flags) (log : Log
       by (inl l) = goes-on counted l
       by (inr m) = exits counted m
 
-  turn-moves : (d : Decoded) → Lies family (slot .ip .0) d → Moves (slot .ip .0) slot flags p (turnOf family enable slot flags log p d)
-  turn-moves (Decoded.Instruction instruction n) h = perform-moves (actionOf instruction) n (h .1)
-  turn-moves (Decoded.Refused Unreadable.Family) h = rests (Effect.Stopped Unreadable.Family) refl refl
-  turn-moves (Decoded.Refused Unreadable.Empty) h = rests (Effect.Stopped Unreadable.Empty) refl refl
-  turn-moves (Decoded.Refused Unreadable.Unknown) h = goes-on refl (omega arith)
-  turn-moves (Decoded.Refused Unreadable.Short) h = rests (Effect.Stopped Unreadable.Short) refl refl
-  turn-moves (Decoded.Refused Unreadable.NotUploaded) h = rests (Effect.Stopped Unreadable.NotUploaded) refl refl
+  slot-step-moves : (d : Decoded) → Lies family (slot .ip .0) d → Moves (slot .ip .0) slot flags p (slotStepOf family enable slot flags log p d)
+  slot-step-moves (Decoded.Instruction instruction n) h = perform-moves (actionOf instruction) n (h .1)
+  slot-step-moves (Decoded.Refused Unreadable.Family) h = rests (Effect.Stopped Unreadable.Family) refl refl
+  slot-step-moves (Decoded.Refused Unreadable.Empty) h = rests (Effect.Stopped Unreadable.Empty) refl refl
+  slot-step-moves (Decoded.Refused Unreadable.Unknown) h = goes-on refl (omega arith)
+  slot-step-moves (Decoded.Refused Unreadable.Short) h = rests (Effect.Stopped Unreadable.Short) refl refl
+  slot-step-moves (Decoded.Refused Unreadable.NotUploaded) h = rests (Effect.Stopped Unreadable.NotUploaded) refl refl
 
-  -- a turn that fetched nothing stopped
-  turn-stops : (d : Decoded) → fetchedBy (turnOf family enable slot flags log p d .effect) ≡ 0
-      → (why : Unreadable) × (turnOf family enable slot flags log p d .effect ≡ Effect.Stopped why)
+  -- a step that fetched nothing stopped
+  slot-step-stops : (d : Decoded) → fetchedBy (slotStepOf family enable slot flags log p d .effect) ≡ 0
+      → (why : Unreadable) × (slotStepOf family enable slot flags log p d .effect ≡ Effect.Stopped why)
   unfolding performOf
-  turn-stops (Decoded.Instruction instruction n) h = absurd (omega (arith, action-fetched (actionOf instruction) enable (slot .addr .0) (slot .«data»)))
-  turn-stops (Decoded.Refused Unreadable.Family) h = (Unreadable.Family, refl)
-  turn-stops (Decoded.Refused Unreadable.Empty) h = (Unreadable.Empty, refl)
-  turn-stops (Decoded.Refused Unreadable.Unknown) h = absurd (omega arith)
-  turn-stops (Decoded.Refused Unreadable.Short) h = (Unreadable.Short, refl)
-  turn-stops (Decoded.Refused Unreadable.NotUploaded) h = (Unreadable.NotUploaded, refl)
+  slot-step-stops (Decoded.Instruction instruction n) h = absurd (omega (arith, action-fetched (actionOf instruction) enable (slot .addr .0) (slot .«data»)))
+  slot-step-stops (Decoded.Refused Unreadable.Family) h = (Unreadable.Family, refl)
+  slot-step-stops (Decoded.Refused Unreadable.Empty) h = (Unreadable.Empty, refl)
+  slot-step-stops (Decoded.Refused Unreadable.Unknown) h = absurd (omega arith)
+  slot-step-stops (Decoded.Refused Unreadable.Short) h = (Unreadable.Short, refl)
+  slot-step-stops (Decoded.Refused Unreadable.NotUploaded) h = (Unreadable.NotUploaded, refl)
 
 -- ---- runs
 
-took-still : (r : SlotRun) (effect : Effect) → fetchedBy effect ≡ 0 → tookTurn r (sameTurn (r .slot) (r .flags) (r .place) effect) ≡ r
+took-still : (r : SlotRun) (effect : Effect) → fetchedBy effect ≡ 0 → tookSlotStep r (sameSlotStep (r .slot) (r .flags) (r .place) effect) ≡ r
 took-still r (Effect.Refused why) z = simp (append-nil, add-zero)
 took-still r Effect.Nothing z = simp (append-nil, add-zero)
 took-still r (Effect.Stopped why) z = simp (append-nil, add-zero)
@@ -96,30 +96,30 @@ took-still r Effect.Done z = absurd (omega arith)
 took-still r (Effect.Wrote address word) z = absurd (omega arith)
 
 module _ (x : Scene) where
-  -- the next turn fetches nothing
+  -- the next step fetches nothing
   abbrev pub Settled : SlotRun → Type 0
-  Settled r = fetchedBy (nextTurn x r .effect) ≡ 0
+  Settled r = fetchedBy (nextSlotStep x r .effect) ≡ 0
 
-  abbrev Moved : SlotRun → Turn → Type 0
+  abbrev Moved : SlotRun → SlotStep → Type 0
   Moved r = Moves (r .slot .ip .0) (r .slot) (r .flags) (r .place)
 
-  next-moves : (r : SlotRun) → Moved r (nextTurn x r)
+  next-moves : (r : SlotRun) → Moved r (nextSlotStep x r)
   next-moves r =
-      turn-elim x (Moved r) r
+      slot-step-elim x (Moved r) r
       (λ _.
-      turn-moves (x .family) _ (r .slot) (r .flags) (x .log) (r .place) (fetchIn x (r .slot .ip .0))
+      slot-step-moves (x .family) _ (r .slot) (r .flags) (x .log) (r .place) (fetchIn x (r .slot .ip .0))
       (fetch-lies (x .family) (x .code) (x .marks) (r .slot .ip .0)))
       (rests Effect.Nothing refl refl)
 
-  pub settled-next : (r : SlotRun) → Settled r → tookTurn r (nextTurn x r) ≡ r
+  pub settled-next : (r : SlotRun) → Settled r → tookSlotStep r (nextSlotStep x r) ≡ r
   settled-next r z = by (next-moves r)
     where
-      by : Moved r (nextTurn x r) → tookTurn r (nextTurn x r) ≡ r
-      by (rests effect y e) = ap (tookTurn r) e ∙ took-still r effect y
+      by : Moved r (nextSlotStep x r) → tookSlotStep r (nextSlotStep x r) ≡ r
+      by (rests effect y e) = ap (tookSlotStep r) e ∙ took-still r effect y
       by (goes-on c l) = absurd (omega arith)
       by (exits c m) = absurd (omega arith)
 
-  -- then further turns change nothing: slot, flags, place, writes, count and sums
+  -- then further steps change nothing: slot, flags, place, writes, count and sums
   pub settled-run : (m : ℕ) (r : SlotRun) → Settled r → slotRunFor x m r ≡ r
   unfolding slotRunFor
   settled-run zero r z = refl
@@ -133,30 +133,31 @@ module _ (x : Scene) where
   rest-settled r m = rw m refl
 
   past-settled : (r : SlotRun) → codeSize (x .family) ≤ r .slot .ip .0 → Settled r
-  past-settled r h = turn-elim x (λ (t : Turn). fetchedBy (t .effect) ≡ 0) r (λ _. rw (fetch-past (x .family) (x .code) (x .marks) (r .slot .ip .0) h)) refl
+  past-settled r h = slot-step-elim x (λ (t : SlotStep). fetchedBy (t .effect) ≡ 0) r (λ _. rw (fetch-past (x .family) (x .code) (x .marks)
+      (r .slot .ip .0) h)) refl
 
-  -- each turn moves IP on by one byte at least, until the run has settled
+  -- each step moves IP on by one byte at least, until the run has settled
   progress : (n : ℕ) (r : SlotRun) → (r .slot .ip .0 + n ≤ slotRunFor x n r .slot .ip .0) ⊎ (Settled (slotRunFor x n r))
   unfolding slotRunFor
   progress zero r = inl (omega arith)
   progress (suc n) r = by (next-moves r) (progress n next)
     where
       next : SlotRun
-      next = tookTurn r (nextTurn x r)
+      next = tookSlotStep r (nextSlotStep x r)
 
       stays : Settled next → Settled (slotRunFor x n next)
       stays z = subst Settled (sym (settled-run n next z)) z
 
-      by : Moved r (nextTurn x r) → (next .slot .ip .0 + n ≤ slotRunFor x n next .slot .ip .0) ⊎ (Settled (slotRunFor x n next))
+      by : Moved r (nextSlotStep x r) → (next .slot .ip .0 + n ≤ slotRunFor x n next .slot .ip .0) ⊎ (Settled (slotRunFor x n next))
           → (r .slot .ip .0 + suc n ≤ slotRunFor x n next .slot .ip .0) ⊎ (Settled (slotRunFor x n next))
       by (rests effect z e) later =
-          let still : Settled r = ap (λ (t : Turn). fetchedBy (t .effect)) e ∙ z in
+          let still : Settled r = ap (λ (t : SlotStep). fetchedBy (t .effect)) e ∙ z in
           inr (stays (subst Settled (sym (settled-next r still)) still))
       by (goes-on c l) (inl h) = inl (omega arith)
       by (goes-on c l) (inr z) = inr z
       by (exits c m) later = inr (stays (rest-settled next (ap isRunning m)))
 
-  -- one turn more than the code RAM has bytes settles every run
+  -- one step more than the code RAM has bytes settles every run
   pub settled : (slot : Slot) (flags : Flags) → Settled (fullSlotRun x slot flags)
   settled slot flags = by (progress (fullSteps (x .family)) (slotBegun slot flags))
     where
@@ -167,11 +168,11 @@ module _ (x : Scene) where
       by (inl h) = past-settled last (omega arith)
       by (inr z) = z
 
-  -- a slot that still runs then is stopped by the next turn
+  -- a slot that still runs then is stopped by the next step
   pub stops : (slot : Slot) (flags : Flags)
-      → (let r = fullSlotRun x slot flags in r .slot .mode ≡ Mode.Running → (why : Unreadable) × (nextTurn x r .effect ≡ Effect.Stopped why))
+      → (let r = fullSlotRun x slot flags in r .slot .mode ≡ Mode.Running → (why : Unreadable) × (nextSlotStep x r .effect ≡ Effect.Stopped why))
   stops slot flags m =
       let r = fullSlotRun x slot flags in
-      let e : nextTurn x r ≡ turnFrom x r = rw m refl in
-      let stop = turn-stops (x .family) _ (r .slot) (r .flags) (x .log) (r .place) (fetchIn x (r .slot .ip .0)) (rw e at (settled slot flags)) in
-      (stop .0, ap (λ (t : Turn). t .effect) e ∙ stop .1)
+      let e : nextSlotStep x r ≡ slotStepFrom x r = rw m refl in
+      let stop = slot-step-stops (x .family) _ (r .slot) (r .flags) (x .log) (r .place) (fetchIn x (r .slot .ip .0)) (rw e at (settled slot flags)) in
+      (stop .0, ap (λ (t : SlotStep). t .effect) e ∙ stop .1)

@@ -1,4 +1,4 @@
--- A slot's runs under two logs, turn by turn: alike but for their places until a wait of the first is unfinished. Assumes nothing.
+-- A slot's runs under two logs, step by step: alike but for their places until a wait of the first is unfinished. Assumes nothing.
 use Prim.Native.Nat.{ℕ, zero, suc, _+_}
 use mathlib.Core.Path.{_≡_, refl, sym, ap₂, _∙_}
 use mathlib.Core.Bool.{Bool, true, false, cond}
@@ -22,11 +22,11 @@ use Rattle.machine_state.specs.declared.slots.Mode.{Mode}
 use Rattle.machine_state.specs.declared.slots.Slot.{Slot}
 use Rattle.machine_time.specs.Time.{afterEwait, elapsedOf}
 use Rattle.machine_time.specs.declared.elapsed.Elapsed.{Elapsed}
-use Rattle.machine_slot.specs.Turn.{modeAfter, effectOf, performOf, sameTurn, turnOf}
-use Rattle.machine_slot.specs.declared.turn.Effect.{Effect}
-use Rattle.machine_slot.specs.declared.turn.Turn.{Turn}
+use Rattle.machine_slot.specs.SlotStep.{modeAfter, effectOf, performOf, sameSlotStep, slotStepOf}
+use Rattle.machine_slot.specs.declared.slot_steps.Effect.{Effect}
+use Rattle.machine_slot.specs.declared.slot_steps.SlotStep.{SlotStep}
 use Rattle.run.specs.Run.{Write, wroteBy, fetchedBy}
-use Rattle.run.specs.SlotRun.{Scene, withLog, fetchIn, SlotRun, slotBegun, tookTurn, nextTurn, slotRunFor}
+use Rattle.run.specs.SlotRun.{Scene, withLog, fetchIn, SlotRun, slotBegun, tookSlotStep, nextSlotStep, slotRunFor}
 use Rattle.run.specs.MoreLog.{KeepsWrites}
 
 -- a scene and another log; how a place in the one log stands to one in the other
@@ -51,9 +51,10 @@ module _ (x : Scene) (log′ : Log) (PlacesBeside : Place → Place → Type 0) 
     unfinished : ((enable : Bool) → modeAfter action enable (e .finished) ≡ Mode.Waiting)
         → ((enable : Bool) (addr word : ℕ) → wroteBy (effectOf action enable addr word) ≡ []) → TimesBeside action e e′
 
-  data TurnsBeside (t t′ : Turn) : Type 0 where
-    both : t′ .slot ≡ t .slot → t′ .flags ≡ t .flags → t′ .effect ≡ t .effect → t′ .waited ≡ t .waited → PlacesBeside (t .place) (t′ .place) → TurnsBeside t t′
-    unfinished : t .slot .mode ≡ Mode.Waiting → wroteBy (t .effect) ≡ [] → TurnsBeside t t′
+  data SlotStepsBeside (t t′ : SlotStep) : Type 0 where
+    both : t′ .slot ≡ t .slot → t′ .flags ≡ t .flags → t′ .effect ≡ t .effect → t′ .waited ≡ t .waited → PlacesBeside (t .place) (t′ .place)
+        → SlotStepsBeside t t′
+    unfinished : t .slot .mode ≡ Mode.Waiting → wroteBy (t .effect) ≡ [] → SlotStepsBeside t t′
 
   -- both have done the same, or the first is in an unfinished wait
   pub data RunsBeside (r r′ : SlotRun) : Type 0 where
@@ -87,64 +88,64 @@ module _ (x : Scene) (log′ : Log) (PlacesBeside : Place → Place → Type 0) 
       times-beside Action.Exit = TimesBeside.both refl refl near
 
       performs-beside : (enable : Bool) (slot : Slot) (flags : Flags) (action : Action) (n : ℕ) (e e′ : Elapsed) → TimesBeside action e e′
-          → TurnsBeside (performOf enable slot flags action n e) (performOf enable slot flags action n e′)
+          → SlotStepsBeside (performOf enable slot flags action n e) (performOf enable slot flags action n e′)
       unfolding performOf
-      performs-beside enable slot flags action n e e′ (TimesBeside.both f w g) = TurnsBeside.both (rw f refl) refl refl w g
+      performs-beside enable slot flags action n e e′ (TimesBeside.both f w g) = SlotStepsBeside.both (rw f refl) refl refl w g
       performs-beside enable slot flags action n e e′ (TimesBeside.unfinished m quiet) =
-          TurnsBeside.unfinished (m enable) (quiet enable (slot .addr .0) (slot .«data»))
+          SlotStepsBeside.unfinished (m enable) (quiet enable (slot .addr .0) (slot .«data»))
 
-      turns-beside : (slot : Slot) (flags : Flags) (found : Decoded)
-          → TurnsBeside (turnOf (x .family) (x .enable) slot flags (x .log) p found) (turnOf (x .family) (x .enable) slot flags log′ p′ found)
-      turns-beside slot flags (Decoded.Instruction i n) =
+      slot-steps-beside : (slot : Slot) (flags : Flags) (found : Decoded)
+          → SlotStepsBeside (slotStepOf (x .family) (x .enable) slot flags (x .log) p found) (slotStepOf (x .family) (x .enable) slot flags log′ p′ found)
+      slot-steps-beside slot flags (Decoded.Instruction i n) =
           performs-beside (x .enable) slot flags (actionOf i) n (elapsedOf (actionOf i) (x .log) p) (elapsedOf (actionOf i) log′ p′) (times-beside (actionOf i))
-      turns-beside slot flags (Decoded.Refused Unreadable.Family) = TurnsBeside.both refl refl refl refl near
-      turns-beside slot flags (Decoded.Refused Unreadable.Empty) = TurnsBeside.both refl refl refl refl near
-      turns-beside slot flags (Decoded.Refused Unreadable.Unknown) = TurnsBeside.both refl refl refl refl near
-      turns-beside slot flags (Decoded.Refused Unreadable.Short) = TurnsBeside.both refl refl refl refl near
-      turns-beside slot flags (Decoded.Refused Unreadable.NotUploaded) = TurnsBeside.both refl refl refl refl near
+      slot-steps-beside slot flags (Decoded.Refused Unreadable.Family) = SlotStepsBeside.both refl refl refl refl near
+      slot-steps-beside slot flags (Decoded.Refused Unreadable.Empty) = SlotStepsBeside.both refl refl refl refl near
+      slot-steps-beside slot flags (Decoded.Refused Unreadable.Unknown) = SlotStepsBeside.both refl refl refl refl near
+      slot-steps-beside slot flags (Decoded.Refused Unreadable.Short) = SlotStepsBeside.both refl refl refl refl near
+      slot-steps-beside slot flags (Decoded.Refused Unreadable.NotUploaded) = SlotStepsBeside.both refl refl refl refl near
 
-      -- the next turn of a slot that runs, and of one that is left alone
+      -- the next step of a slot that runs, and of one that is left alone
       next-beside : (slot : Slot) (flags : Flags) (runs : Bool)
           → (let found = fetchIn x (slot .ip .0) in
-          TurnsBeside
-          (cond runs (turnOf (x .family) (x .enable) slot flags (x .log) p found) (sameTurn slot flags p Effect.Nothing))
-          (cond runs (turnOf (x .family) (x .enable) slot flags log′ p′ found) (sameTurn slot flags p′ Effect.Nothing)))
-      next-beside slot flags true = turns-beside slot flags (fetchIn x (slot .ip .0))
-      next-beside slot flags false = TurnsBeside.both refl refl refl refl near
+          SlotStepsBeside
+          (cond runs (slotStepOf (x .family) (x .enable) slot flags (x .log) p found) (sameSlotStep slot flags p Effect.Nothing))
+          (cond runs (slotStepOf (x .family) (x .enable) slot flags log′ p′ found) (sameSlotStep slot flags p′ Effect.Nothing)))
+      next-beside slot flags true = slot-steps-beside slot flags (fetchIn x (slot .ip .0))
+      next-beside slot flags false = SlotStepsBeside.both refl refl refl refl near
 
     -- ---- runs
 
     abbrev x′ : Scene
     x′ = withLog x log′
 
-    -- runs that have done the same, with one more turn each
-    took-beside : (r r′ : SlotRun) (t t′ : Turn) → r′ .writes ≡ r .writes → r′ .count ≡ r .count → r′ .waits ≡ r .waits → TurnsBeside t t′
-        → RunsBeside (tookTurn r t) (tookTurn r′ t′)
-    took-beside r r′ t t′ writes count waits (TurnsBeside.both a b c d near) =
+    -- runs that have done the same, with one more step each
+    took-beside : (r r′ : SlotRun) (t t′ : SlotStep) → r′ .writes ≡ r .writes → r′ .count ≡ r .count → r′ .waits ≡ r .waits → SlotStepsBeside t t′
+        → RunsBeside (tookSlotStep r t) (tookSlotStep r′ t′)
+    took-beside r r′ t t′ writes count waits (SlotStepsBeside.both a b c d near) =
         RunsBeside.both a b
         (ap₂ (λ (w : List Write) (e : Effect). w ++ wroteBy e) writes c)
         (ap₂ (λ (n : ℕ) (e : Effect). n + fetchedBy e) count c)
         (ap₂ (λ (n m : ℕ). n + m) waits d)
         near
-    took-beside r r′ t t′ writes count waits (TurnsBeside.unfinished m quiet) =
+    took-beside r r′ t t′ writes count waits (SlotStepsBeside.unfinished m quiet) =
         RunsBeside.unfinished m (wroteBy (t′ .effect), rw (quiet, append-nil, writes) refl)
 
     -- a slot in a wait is left alone
-    waits-on : (r : SlotRun) → r .slot .mode ≡ Mode.Waiting → nextTurn x r ≡ sameTurn (r .slot) (r .flags) (r .place) Effect.Nothing
+    waits-on : (r : SlotRun) → r .slot .mode ≡ Mode.Waiting → nextSlotStep x r ≡ sameSlotStep (r .slot) (r .flags) (r .place) Effect.Nothing
     waits-on r m = rw m refl
 
-    more-beside : (r r′ : SlotRun) → RunsBeside r r′ → RunsBeside (tookTurn r (nextTurn x r)) (tookTurn r′ (nextTurn x′ r′))
+    more-beside : (r r′ : SlotRun) → RunsBeside r r′ → RunsBeside (tookSlotStep r (nextSlotStep x r)) (tookSlotStep r′ (nextSlotStep x′ r′))
     more-beside r r′ (RunsBeside.both slot flags writes count waits near) =
-        took-beside r r′ (nextTurn x r) (nextTurn x′ r′) writes count waits
+        took-beside r r′ (nextSlotStep x r) (nextSlotStep x′ r′) writes count waits
         (rw (slot, flags) (next-beside (r .place) (r′ .place) near (r .slot) (r .flags) (isRunning (r .slot .mode))))
     more-beside r r′ (RunsBeside.unfinished m (more, e)) =
         rw (waits-on r m)
-        (RunsBeside.unfinished m (more ++ wroteBy (nextTurn x′ r′ .effect), rw (append-nil, ← e, append-assoc) refl))
+        (RunsBeside.unfinished m (more ++ wroteBy (nextSlotStep x′ r′ .effect), rw (append-nil, ← e, append-assoc) refl))
 
     run-beside : (n : ℕ) (r r′ : SlotRun) → RunsBeside r r′ → RunsBeside (slotRunFor x n r) (slotRunFor x′ n r′)
     unfolding slotRunFor
     run-beside zero r r′ b = b
-    run-beside (suc n) r r′ b = run-beside n (tookTurn r (nextTurn x r)) (tookTurn r′ (nextTurn x′ r′)) (more-beside r r′ b)
+    run-beside (suc n) r r′ b = run-beside n (tookSlotStep r (nextSlotStep x r)) (tookSlotStep r′ (nextSlotStep x′ r′)) (more-beside r r′ b)
 
     pub slots-beside : (slot : Slot) (flags : Flags) (n : ℕ) → RunsBeside (slotRunFor x n (slotBegun slot flags)) (slotRunFor x′ n (slotBegun slot flags))
     slots-beside slot flags n =

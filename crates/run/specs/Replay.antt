@@ -18,7 +18,7 @@ use Rattle.machine_state.specs.declared.slots.Mode.{Mode}
 use Rattle.machine_state.specs.declared.slots.Slot.{Slot}
 use Rattle.machine_state.specs.declared.slots.SlotName.{SlotName}
 use Rattle.machine_state.specs.declared.state.State.{State}
-use Rattle.machine_slot.specs.declared.turn.Effect.{Effect}
+use Rattle.machine_slot.specs.declared.slot_steps.Effect.{Effect}
 use Rattle.script.specs.Script.{Script}
 use Rattle.script.specs.Input.{scriptFits}
 use Rattle.run.specs.Run.{Run, Write, begun, nextStep, runFor}
@@ -36,7 +36,7 @@ use Rattle.run.specs.declared.answers.Replayed.{Replayed}
 abbrev pub fullSteps : ℕ → ℕ
 fullSteps family = suc (codeSize family)
 
--- a slot's run of so many turns
+-- a slot's run of so many steps
 abbrev pub fullSlotRun : Scene → Slot → Flags → SlotRun
 fullSlotRun x slot flags = slotRunFor x (fullSteps (x .family)) (slotBegun slot flags)
 
@@ -134,7 +134,7 @@ module _ (x : Scene) (slot : Slot) (flags : Flags) where
 
   -- ---- that it is the machine's own run
 
-  -- in every state that holds the slot so many steps are so many turns of it, and all else of the state stays
+  -- in every state that holds the slot so many steps are so many steps of it, and all else of the state stays
   abbrev pub FollowsSteps : Type 0
   FollowsSteps = (name : SlotName) (s : State) → Holds x slot flags name s → validLog (x .log) ≡ true
       → (n : ℕ) → runFor name (x .log) n (begun s) ≡ inState s name (slotRunFor x n (slotBegun slot flags))

@@ -8,7 +8,7 @@ use Rattle.machine_step.specs.Step.{stepOf}
 use Rattle.machine_state.specs.declared.slots.SlotName.{SlotName}
 use Rattle.machine_state.specs.declared.state.State.{State}
 use Rattle.machine_step.specs.declared.steps.Stepped.{Stepped}
-use Rattle.machine_slot.specs.declared.turn.Effect.{Effect}
+use Rattle.machine_slot.specs.declared.slot_steps.Effect.{Effect}
 
 pub record Write : Type 0 where
   pub address : ℕ

@@ -1,4 +1,4 @@
--- One slot's run: what its turns read, what they change, and what they did (01, "Demand 3's words").
+-- One slot's run: what its steps read, what they change, and what they did (01, "Demand 3's words").
 use Prim.Native.Nat.{ℕ, zero, suc, _+_}
 use mathlib.Core.Path.{_≡_}
 use mathlib.Core.Bool.{Bool, true, false, cond}
@@ -15,13 +15,13 @@ use Rattle.machine_state.specs.declared.slots.Mode.{Mode}
 use Rattle.machine_state.specs.declared.slots.Slot.{Slot}
 use Rattle.machine_state.specs.declared.slots.SlotName.{SlotName}
 use Rattle.machine_state.specs.declared.state.State.{State}
-use Rattle.machine_slot.specs.Turn.{sameTurn, turnOf}
-use Rattle.machine_slot.specs.declared.turn.Effect.{Effect}
-use Rattle.machine_slot.specs.declared.turn.Turn.{Turn}
+use Rattle.machine_slot.specs.SlotStep.{sameSlotStep, slotStepOf}
+use Rattle.machine_slot.specs.declared.slot_steps.Effect.{Effect}
+use Rattle.machine_slot.specs.declared.slot_steps.SlotStep.{SlotStep}
 use Rattle.script.specs.Script.{Script, scriptOf}
 use Rattle.run.specs.Run.{Run, Write, wroteBy, fetchedBy}
 
--- what a slot's turns read and none changes: the family, its code RAM with the upload marks, HWSQ_ENABLE and the log
+-- what a slot's steps read and none changes: the family, its code RAM with the upload marks, HWSQ_ENABLE and the log
 pub record Scene : Type 0 where
   pub family : ℕ
   pub code : List ℕ
@@ -32,7 +32,7 @@ pub record Scene : Type 0 where
 abbrev pub sceneFor : ℕ → List ℕ → List ℕ → Bool → Log → Scene
 sceneFor family code marks enable log = record { family = family; code = code; marks = marks; enable = enable; log = log }
 
--- what the turns of a script read, with this HWSQ_ENABLE and under this log
+-- what the steps of a script read, with this HWSQ_ENABLE and under this log
 abbrev pub scriptScene : Script → Bool → Log → Scene
 scriptScene script enable log = sceneFor (script .family) (script .code) (script .marks) enable log
 
@@ -48,7 +48,7 @@ withLog x log = sceneFor (x .family) (x .code) (x .marks) (x .enable) log
 abbrev pub fetchIn : Scene → ℕ → Decoded
 fetchIn x at = fetchOf (x .family) (x .code) (x .marks) at
 
--- the slot, the flags and the place that the last turn left, the writes in order, how many turns fetched an instruction, and
+-- the slot, the flags and the place that the last step left, the writes in order, how many steps fetched an instruction, and
 -- the clocks spent in waits and passed by in ewaits
 pub record SlotRun : Type 0 where
   pub slot : Slot
@@ -59,13 +59,13 @@ pub record SlotRun : Type 0 where
   pub waits : ℕ
   pub ewaits : ℕ
 
--- before the first turn, at the log's start
+-- before the first step, at the log's start
 abbrev pub slotBegun : Slot → Flags → SlotRun
 slotBegun slot flags = record { slot = slot; flags = flags; place = logStart; writes = []; count = 0; waits = 0; ewaits = 0 }
 
--- with one more turn noted
-abbrev pub tookTurn : SlotRun → Turn → SlotRun
-tookTurn r t = record {
+-- with one more step noted
+abbrev pub tookSlotStep : SlotRun → SlotStep → SlotRun
+tookSlotStep r t = record {
   slot = t .slot;
   flags = t .flags;
   place = t .place;
@@ -76,18 +76,18 @@ tookTurn r t = record {
 }
 
 module _ (x : Scene) where
-  -- the turn of a slot that runs: one instruction is fetched at IP and done
-  abbrev pub turnFrom : SlotRun → Turn
-  turnFrom r = turnOf (x .family) (x .enable) (r .slot) (r .flags) (x .log) (r .place) (fetchIn x (r .slot .ip .0))
+  -- the step of a slot that runs: one instruction is fetched at IP and done
+  abbrev pub slotStepFrom : SlotRun → SlotStep
+  slotStepFrom r = slotStepOf (x .family) (x .enable) (r .slot) (r .flags) (x .log) (r .place) (fetchIn x (r .slot .ip .0))
 
-  -- its next turn; a slot that is idle, waiting, blocked or hung is left alone
-  abbrev pub nextTurn : SlotRun → Turn
-  nextTurn r = cond (isRunning (r .slot .mode)) (turnFrom r) (sameTurn (r .slot) (r .flags) (r .place) Effect.Nothing)
+  -- its next step; a slot that is idle, waiting, blocked or hung is left alone
+  abbrev pub nextSlotStep : SlotRun → SlotStep
+  nextSlotStep r = cond (isRunning (r .slot .mode)) (slotStepFrom r) (sameSlotStep (r .slot) (r .flags) (r .place) Effect.Nothing)
 
-  -- its run after n more turns
+  -- its run after n more steps
   unfoldable pub slotRunFor : ℕ → SlotRun → SlotRun
   slotRunFor zero r = r
-  slotRunFor (suc n) r = slotRunFor n (tookTurn r (nextTurn r))
+  slotRunFor (suc n) r = slotRunFor n (tookSlotStep r (nextSlotStep r))
 
 -- scenes of one family, with one HWSQ_ENABLE and one log, that fetch the same at every place
 pub record SameScene (x y : Scene) : Type 0 where
@@ -102,7 +102,7 @@ slotAtEntry entry addr word = record { mode = Mode.Running; ip = record { 0 = en
 
 -- ---- in a state
 
--- what any slot's turns read of a state
+-- what any slot's steps read of a state
 abbrev pub sceneOf : State → Log → Scene
 sceneOf s log = sceneFor (s .family) (s .code) (s .marks) (s .enable) log
 
@@ -144,7 +144,7 @@ slotRunOf name r = record {
   ewaits = r .ewaits;
 }
 
--- a state whose turns read this scene, with the slot under a name that its family has, and the flags
+-- a state whose steps read this scene, with the slot under a name that its family has, and the flags
 pub record Holds (x : Scene) (slot : Slot) (flags : Flags) (name : SlotName) (s : State) : Type 0 where
   pub known-family : knownFamily (s .family) ≡ true
   pub slot-there : hasSlot (s .family) name ≡ true

@@ -12,13 +12,13 @@ use Rattle.log.specs.Validity.{validLog, logStart}
 use Rattle.log.proofs.Columns.{column-length, column-more}
 use Rattle.log_waits.proofs.LeftLaws.{left-most}
 use Rattle.machine_state.specs.Slot.{isRunning}
-use Rattle.machine_slot.specs.Turn.{turnOf}
+use Rattle.machine_slot.specs.SlotStep.{slotStepOf}
 use Rattle.machine_flags.specs.declared.flags.Flags.{Flags}
 use Rattle.machine_state.specs.declared.slots.Slot.{Slot}
-use Rattle.machine_slot.specs.declared.turn.Effect.{Effect}
-use Rattle.machine_slot.specs.declared.turn.Turn.{Turn}
+use Rattle.machine_slot.specs.declared.slot_steps.Effect.{Effect}
+use Rattle.machine_slot.specs.declared.slot_steps.SlotStep.{SlotStep}
 use Rattle.run.specs.Run.{Write, wroteBy, fetchedBy}
-use Rattle.run.specs.SlotRun.{Scene, SlotRun, slotBegun, tookTurn, turnFrom, nextTurn, slotRunFor}
+use Rattle.run.specs.SlotRun.{Scene, SlotRun, slotBegun, tookSlotStep, slotStepFrom, nextSlotStep, slotRunFor}
 use Rattle.run.specs.Replay.{entriesOf, writtenInto, fullSteps, fullSlotRun, progressOf}
 use Rattle.run.specs.declared.answers.Progress.{Progress}
 use Rattle.run.proofs.Entries.{entries-length, entries-append}
@@ -70,21 +70,21 @@ written-more lent ws more h =
     ∙ ap (columnInto lent) (sym (entries-append ws more))
     ∙ sym (written-is lent (ws ++ more))
 
--- ---- one turn
+-- ---- one step
 
-progress-took : (r : SlotRun) (t : Turn) → progressOf (tookTurn r t) ≡ progressAfter (progressOf r) t
+progress-took : (r : SlotRun) (t : SlotStep) → progressOf (tookSlotStep r t) ≡ progressAfter (progressOf r) t
 progress-took r t = rw length-append refl
 
 module _ (x : Scene) (slot : Slot) (flags : Flags) where
   abbrev pub run : ℕ → SlotRun
   run n = slotRunFor x n (slotBegun slot flags)
 
-  -- the turn that a progress asks for
-  abbrev pub turnOn : Progress → Turn
-  turnOn p = turnOf (x .family) (x .enable) (p .slot) (p .flags) (x .log) (p .place) (fetchOf (x .family) (x .code) (x .marks) (p .slot .ip .0))
+  -- the step that a progress asks for
+  abbrev pub slotStepOn : Progress → SlotStep
+  slotStepOn p = slotStepOf (x .family) (x .enable) (p .slot) (p .flags) (x .log) (p .place) (fetchOf (x .family) (x .code) (x .marks) (p .slot .ip .0))
 
-  run-next : (n : ℕ) → isRunning (run n .slot .mode) ≡ true → run (suc n) ≡ tookTurn (run n) (turnFrom x (run n))
-  run-next n m = slot-snoc x n (slotBegun slot flags) ∙ ap (tookTurn (run n)) (let e : nextTurn x (run n) ≡ turnFrom x (run n) = rw m refl in e)
+  run-next : (n : ℕ) → isRunning (run n .slot .mode) ≡ true → run (suc n) ≡ tookSlotStep (run n) (slotStepFrom x (run n))
+  run-next n m = slot-snoc x n (slotBegun slot flags) ∙ ap (tookSlotStep (run n)) (let e : nextSlotStep x (run n) ≡ slotStepFrom x (run n) = rw m refl in e)
 
   -- a run that has settled has come to its end
   run-settled : (n : ℕ) → Settled x (run n) → n ≤ fullSteps (x .family) → run n ≡ fullSlotRun x slot flags
@@ -102,7 +102,7 @@ module _ (x : Scene) (slot : Slot) (flags : Flags) where
   count-small zero = omega arith
   count-small (suc n) =
       let e = ap (λ (r : SlotRun). r .count) (slot-snoc x n (slotBegun slot flags)) in
-      omega (arith, e, count-small n, fetched-small (nextTurn x (run n) .effect))
+      omega (arith, e, count-small n, fetched-small (nextSlotStep x (run n) .effect))
 
   module _ (low : slot .ip .0 ≤ 512) (valid : validLog (x .log) ≡ true) where
     steps-small : (n : ℕ) → n ≤ 513 → run n .count < 1024
@@ -117,28 +117,28 @@ module _ (x : Scene) (slot : Slot) (flags : Flags) where
         let m = left-most (x .log) valid logStart in
         (omega arith, omega arith)
 
-    -- one turn of the loop, which holds the run's progress
-    module _ (n : ℕ) (p : Progress) (is : p ≡ progressOf (run n)) (runs-on : isRunning (p .slot .mode) ≡ true) (t : Turn) (taken : t ≡ turnOn p) where
+    -- one step of the loop, which holds the run's progress
+    module _ (n : ℕ) (p : Progress) (is : p ≡ progressOf (run n)) (runs-on : isRunning (p .slot .mode) ≡ true) (t : SlotStep) (taken : t ≡ slotStepOn p) where
       running : isRunning (run n .slot .mode) ≡ true
       running = rw is at runs-on
 
-      taken-is : t ≡ turnFrom x (run n)
-      taken-is = taken ∙ ap turnOn is
+      taken-is : t ≡ slotStepFrom x (run n)
+      taken-is = taken ∙ ap slotStepOn is
 
       -- one that fetched nothing was stopped, and so is every later one
       pub run-stopped : fetchedBy (t .effect) ≡ 0 → n ≤ fullSteps (x .family) → run n ≡ fullSlotRun x slot flags
       run-stopped none =
-          let next : nextTurn x (run n) ≡ t = (let e : nextTurn x (run n) ≡ turnFrom x (run n) = rw running refl in e) ∙ sym taken-is in
-          run-settled n (ap (λ (u : Turn). fetchedBy (u .effect)) next ∙ none)
+          let next : nextSlotStep x (run n) ≡ t = (let e : nextSlotStep x (run n) ≡ slotStepFrom x (run n) = rw running refl in e) ∙ sym taken-is in
+          run-settled n (ap (λ (u : SlotStep). fetchedBy (u .effect)) next ∙ none)
 
       pub progress-after : progressAfter p t ≡ progressOf (run (suc n))
-      progress-after = rw (taken-is, is) (sym (progress-took (run n) (turnFrom x (run n))) ∙ sym (ap progressOf (run-next n running)))
+      progress-after = rw (taken-is, is) (sym (progress-took (run n) (slotStepFrom x (run n))) ∙ sym (ap progressOf (run-next n running)))
 
       writes-counted : p .writes ≡ length (run n .writes)
       writes-counted = ap (λ (q : Progress). q .writes) is
 
       writes-are : run (suc n) .writes ≡ run n .writes ++ wroteBy (t .effect)
-      writes-are = ap (λ (r : SlotRun). r .writes) (run-next n running) ∙ ap (λ (u : Turn). run n .writes ++ wroteBy (u .effect)) (sym taken-is)
+      writes-are = ap (λ (r : SlotRun). r .writes) (run-next n running) ∙ ap (λ (u : SlotStep). run n .writes ++ wroteBy (u .effect)) (sym taken-is)
 
       module _ (lent now : List ℕ) (enough : 340 ≤ length lent) (held : now ≡ writtenInto lent (run n .writes)) where
         sized : length now ≡ length lent
@@ -153,8 +153,8 @@ module _ (x : Scene) (slot : Slot) (flags : Flags) where
             (written-more lent (run n .writes) (wroteBy (t .effect)) (omega (arith, writes-small (suc n), ap length writes-are))
             ∙ ap (writtenInto lent) (sym writes-are))
 
-      pub turn-fits : n ≤ 512 → (p .steps < 1024) × (p .writes < 1024) × (p .waited + t .waited < 2 ^ 64) × (p .searched + t .searched < 2 ^ 64)
-      turn-fits h =
+      pub slot-step-fits : n ≤ 512 → (p .steps < 1024) × (p .writes < 1024) × (p .waited + t .waited < 2 ^ 64) × (p .searched + t .searched < 2 ^ 64)
+      slot-step-fits h =
           let next = sums-small (suc n) in (
             omega (arith, ap (λ (q : Progress). q .steps) is, steps-small n (omega arith)),
             omega (arith, writes-counted, writes-small n),

@@ -1,18 +1,18 @@
--- What the loop over a slot's turns holds. Private functions cite it; no public contract does.
+-- What the loop over a slot's steps holds. Private functions cite it; no public contract does.
 use Prim.Native.Nat.{ℕ, _+_}
 use mathlib.Core.Path.{_≡_}
 use mathlib.Core.List.{List}
 use lib.ListN.{length}
 use Rattle.machine_flags.specs.declared.flags.Flags.{Flags}
 use Rattle.machine_state.specs.declared.slots.Slot.{Slot}
-use Rattle.machine_slot.specs.declared.turn.Turn.{Turn}
+use Rattle.machine_slot.specs.declared.slot_steps.SlotStep.{SlotStep}
 use Rattle.run.specs.Run.{wroteBy, fetchedBy}
 use Rattle.run.specs.Replay.{writtenInto, progressOf, fullSlotRun}
 use Rattle.run.specs.SlotRun.{Scene}
 use Rattle.run.specs.declared.answers.Progress.{Progress}
 
--- a progress after one more turn
-abbrev pub progressAfter : Progress → Turn → Progress
+-- a progress after one more step
+abbrev pub progressAfter : Progress → SlotStep → Progress
 progressAfter p t = record {
   slot = t .slot;
   flags = t .flags;

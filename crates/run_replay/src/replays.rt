@@ -8,7 +8,7 @@ ghost use Rattle.isa_fetch.specs.Fetch.{fetchOf};
 ghost use Rattle.log.specs.Log.{logOf};
 ghost use Rattle.log.specs.Validity.{validLog};
 ghost use Rattle.log_waits.specs.Left.{leftOf};
-ghost use Rattle.machine_slot.specs.Turn.{turnOf};
+ghost use Rattle.machine_slot.specs.SlotStep.{slotStepOf};
 ghost use Rattle.run.specs.Run.{wroteBy, fetchedBy};
 ghost use Rattle.run.specs.Replay.{maxEntries, endingOf, entriesOf, progressOf, toldOf, RunsSlot, Replays};
 ghost use Rattle.run.specs.Registers.{registersOf};
@@ -21,7 +21,7 @@ use isa::MmioAddress;
 use log::Place;
 use machine_flags::Flags;
 use machine_slot::Effect;
-use machine_slot::Turn;
+use machine_slot::SlotStep;
 use machine_state::Mode;
 use machine_state::Slot;
 use refusals::Unreplayable;
@@ -114,7 +114,7 @@ pub fn run<'a>(
     if !log::valid_log(clocks, known, values) {
         return RunAnswer::Refused(Unreplayable::Log);
     }
-    RunAnswer::Ended(run_turns(
+    RunAnswer::Ended(run_slot_steps(
         family,
         code,
         marks,
@@ -143,7 +143,7 @@ fn begin(slot: Slot, flags: Flags) -> Progress
 }
 
 // One instruction: fetched, taken apart, and done.
-fn take_turn<'a>(
+fn take_slot_step<'a>(
     family: u8,
     code: &'a [u8],
     marks: &'a [u8],
@@ -152,8 +152,8 @@ fn take_turn<'a>(
     known: &'a [u32],
     values: &'a [u32],
     progress: Progress,
-) -> Turn
-    ensures { λ r. ⌜ r ≡ turnOf family enable (progress .slot) (progress .flags) (logOf (now (clocks .entry)) (now (known .entry)) (now (values .entry)))
+) -> SlotStep
+    ensures { λ r. ⌜ r ≡ slotStepOf family enable (progress .slot) (progress .flags) (logOf (now (clocks .entry)) (now (known .entry)) (now (values .entry)))
         (progress .place) (fetchOf family (now (code .entry)) (now (marks .entry)) (progress .slot .ip .0)) ⌝ }
 {
     let slot = progress.slot;
@@ -224,29 +224,29 @@ fn store(effect: Effect, writes: &mut [u32], at: usize)
     }
 }
 
-fn after_turn(progress: Progress, turn: Turn) -> Progress
+fn after_slot_step(progress: Progress, step: SlotStep) -> Progress
     requires { ⌜ (progress .steps < 1024) × (progress .writes < 1024)
-        × (progress .waited + turn .waited < 2 ^ 64) × (progress .searched + turn .searched < 2 ^ 64) ⌝ }
-    ensures { λ r. ⌜ r ≡ progressAfter progress turn ⌝ }
+        × (progress .waited + step .waited < 2 ^ 64) × (progress .searched + step .searched < 2 ^ 64) ⌝ }
+    ensures { λ r. ⌜ r ≡ progressAfter progress step ⌝ }
 {
-    let slot = turn.slot;
-    let flags = turn.flags;
-    let place = turn.place;
-    let effect = turn.effect;
+    let slot = step.slot;
+    let flags = step.flags;
+    let place = step.place;
+    let effect = step.effect;
     Progress {
         slot,
         flags,
         place,
         steps: progress.steps + fetched(effect),
         writes: progress.writes + written(effect),
-        waited: progress.waited + turn.waited,
-        searched: progress.searched + turn.searched,
+        waited: progress.waited + step.waited,
+        searched: progress.searched + step.searched,
     }
 }
 
-// Turn after turn, until the slot does not run, is stopped, as every later turn would stop it, or there was one turn more than
+// Step after step, until the slot does not run, is stopped, as every later step would stop it, or there was one step more than
 // the code RAM has bytes.
-fn run_turns<'a>(
+fn run_slot_steps<'a>(
     family: u8,
     code: &'a [u8],
     marks: &'a [u8],
@@ -265,9 +265,9 @@ fn run_turns<'a>(
 {
     let limit = families::code_size(family) + 1;
     let mut progress = begin(slot, flags);
-    let mut turns = 0;
+    let mut steps = 0;
     let last = loop {
-        if limit <= turns {
+        if limit <= steps {
             break progress;
         }
         let present = progress.slot;
@@ -275,15 +275,15 @@ fn run_turns<'a>(
         if !machine_state::is_running(mode) {
             break progress;
         }
-        let turn = take_turn(family, code, marks, enable, clocks, known, values, progress);
-        let effect = turn.effect;
+        let step = take_slot_step(family, code, marks, enable, clocks, known, values, progress);
+        let effect = step.effect;
         if fetched(effect) == 0 {
             break progress;
         }
         let used = 2 * progress.writes;
         store(effect, writes, used);
-        progress = after_turn(progress, turn);
-        turns += 1;
+        progress = after_slot_step(progress, step);
+        steps += 1;
     };
     last
 }

@@ -1,5 +1,4 @@
 -- Assumes nothing.
-use mathlib.Core.Path.{_∙_}
 use Rattle.host_registers.specs.Access.{blankState}
 use Rattle.host_registers.proofs.AccessLaws.{begins}
 use Rattle.host_fresh.proofs.Outcomes.{fresh-as}

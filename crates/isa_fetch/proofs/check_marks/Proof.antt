@@ -9,7 +9,11 @@ use Rattle.isa_fetch.proofs.check_marks.Tie as tie
 returns : tie.Need-returns
 returns c =
     let s = c .before .before .before .before .before in
-    simp (c .before .before .found .given .1, marked-first (now (s .args .marks)) (s .args .at) (c .before .before .found .given .0 .1 .0) (c .if1 .taken) (s .pre))
+    simp (
+      c .before .before .found .given .1,
+      marked-first (now (s .args .marks)) (s .args .at) (c .before .before .found .given .0 .1 .0) (c .if1 .taken)
+          (s .pre),
+    )
 
 returns-2 : tie.Need-returns-2
 returns-2 c = simp (c .before .before .before .before .found .given .1, sym (c .before .all-marked .ensures) ∙ c .if2 .taken)

@@ -19,7 +19,8 @@ use Rattle.isa_fetch.proofs.fetch.Statement.{statement}
 use Rattle.isa_fetch.proofs.fetch.Tie as tie
 
 -- a refusal holds no instruction, so nothing of it has to lie in the RAM
-refused : {family : ℕ} {code marks : List ℕ} {at : ℕ} (why : Unreadable) → Decoded.Refused why ≡ fetchOf family code marks at → Fetches family code marks at (Decoded.Refused why)
+refused : {family : ℕ} {code marks : List ℕ} {at : ℕ} (why : Unreadable) → Decoded.Refused why ≡ fetchOf family code marks at
+    → Fetches family code marks at (Decoded.Refused why)
 refused {family} {code} {marks} {at} why e = record { answered = e; numbered = ap decodedNumber e ∙ fetch-numbered family code marks at; inside = tt }
 
 returns : tie.Need-returns
@@ -30,7 +31,8 @@ returns c =
     refused Unreadable.Empty (simp (le-ltb (a .place .0) (length r) (omega (arith, c .before .ram-length .ensures))))
 
 -- past the first test the place lies in the RAM
-before-end : (c : tie.Else1) → c .before .before .before .before .args .place .0 < length (codeRam (c .before .before .before .before .args .family) (now (c .before .before .before .before .args .code)))
+before-end : (c : tie.Else1) → c .before .before .before .before .args .place .0 < length (codeRam (c .before .before .before .before .args .family) (now
+    (c .before .before .before .before .args .code)))
 before-end c = omega (arith, c .before .ram-length .ensures)
 
 returns-2 : tie.Need-returns-2
@@ -39,7 +41,10 @@ returns-2 c =
     let a = c .before .before .before .before .before .before .args in
     let r = codeRam (a .family) (now (a .code)) in
     refused Unreadable.NotUploaded
-    (simp (lt-ltb (a .place .0) (length r) (before-end (c .before .before)), ne-eqb (getD (now (a .marks)) (a .place .0) 0) 1 (λ e. c .if2 .taken (c .before .mark .ensures ∙ e))))
+    (simp (
+      lt-ltb (a .place .0) (length r) (before-end (c .before .before)),
+      ne-eqb (getD (now (a .marks)) (a .place .0) 0) 1 (λ e. c .if2 .taken (c .before .mark .ensures ∙ e)),
+    ))
 
 part-decode-end : tie.Need-part-decode-end
 part-decode-end c =
@@ -53,14 +58,19 @@ returns-3 c =
     let a = k .before .before .before .before .before .before .args in
     let r = codeRam (a .family) (now (a .code)) in
     let e : take (k .before .before .before .ram-length .result - a .place .0) (drop (a .place .0) (now (a .code))) ≡ drop (a .place .0) r =
-    ap (λ (n : ℕ). take (n - a .place .0) (drop (a .place .0) (now (a .code)))) (k .before .before .before .ram-length .ensures) ∙ part (codeSize (a .family)) (a .place .0) (now (a .code)) in
+    ap (λ (n : ℕ). take (n - a .place .0) (drop (a .place .0) (now (a .code)))) (k .before .before .before .ram-length .ensures)
+    ∙ part (codeSize (a .family)) (a .place .0) (now (a .code)) in
     let d = c .before .decode in
     let found : d .result ≡ decodeOf (a .family) (drop (a .place .0) r) = d .ensures .answered ∙ ap (decodeOf (a .family)) e in
     let spelled : OneSpelling (a .family) (drop (a .place .0) r) (d .result) = rw e at (d .ensures .spelled-so) in
     let inside = inside-of (a .family) (now (a .code)) (now (a .marks)) (a .place .0) (d .result) (omega (arith, before-end (k .before .before))) spelled in
     let answer : c .check-marks .result ≡ checkMarks (now (a .marks)) (a .place .0) (d .result) = c .check-marks .ensures in
     let answered : c .check-marks .result ≡ fetchOf (a .family) (now (a .code)) (now (a .marks)) (a .place .0) =
-    answer ∙ simp (lt-ltb (a .place .0) (length r) (before-end (k .before .before)), eq-eqb (getD (now (a .marks)) (a .place .0) 0) 1 (sym (k .before .mark .ensures) ∙ k .if2 .left), found) in
+    answer ∙ simp (
+      lt-ltb (a .place .0) (length r) (before-end (k .before .before)),
+      eq-eqb (getD (now (a .marks)) (a .place .0) 0) 1 (sym (k .before .mark .ensures) ∙ k .if2 .left),
+      found,
+    ) in
     record {
       answered = answered;
       numbered = ap decodedNumber answered ∙ fetch-numbered (a .family) (now (a .code)) (now (a .marks)) (a .place .0);

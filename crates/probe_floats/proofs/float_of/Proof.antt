@@ -22,7 +22,8 @@ returns : tie.Need-returns
 returns c =
     let bits = c .before .args .bits in
     from-pattern bits _ (search needs)
-    (zero-by-zero ∙ sym (only-nan (ofBits binary32 bits) (sym (nanBits-is binary32 bits) ∙ nanBits-above binary32 bits ∙ lt-ltb 0x7f80_0000 (bits % 0x8000_0000) (omega (arith, c .if1 .taken)))))
+    (zero-by-zero ∙ sym (only-nan (ofBits binary32 bits) (sym (nanBits-is binary32 bits) ∙ nanBits-above binary32 bits
+    ∙ lt-ltb 0x7f80_0000 (bits % 0x8000_0000) (omega (arith, c .if1 .taken)))))
 
 returns-2 : tie.Need-returns-2
 returns-2 c = from-pattern (c .before .args .bits) _ (search needs) refl

@@ -1,5 +1,5 @@
 -- Assumes nothing.
-use Rattle.audit_script.proofs.Turns.{poke-small}
+use Rattle.audit_script.proofs.Walking.{poke-small}
 use native.Mathlib.Omega.{arith}
 use borrow.Author.Needs.{needs}
 use Rattle.audit_script.proofs.assess.know_next.Statement.{statement}
@@ -9,7 +9,13 @@ add-t9 : tie.Need-add-t9
 add-t9 c = omega (arith, poke-small (c .before .before .before .before .before .before .args .action), c .before .poke-count .ensures)
 
 returns : tie.Need-returns
-returns c = simp (c .before .before .before .before .before .before .before .known-addr .ensures, c .before .before .before .before .before .before .known-data .ensures, c .before .before .before .before .before .known-paused .ensures, c .before .before .before .poke-count .ensures, c .before .wait-length .ensures)
+returns c = simp (
+  c .before .before .before .before .before .before .before .known-addr .ensures,
+  c .before .before .before .before .before .before .known-data .ensures,
+  c .before .before .before .before .before .known-paused .ensures,
+  c .before .before .before .poke-count .ensures,
+  c .before .wait-length .ensures,
+)
 
 pub know-next-spec : {M : Type 1} → statement M
 know-next-spec =

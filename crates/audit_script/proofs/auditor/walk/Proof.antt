@@ -19,7 +19,7 @@ use Rattle.script.specs.Script.{Script, scriptOf, fetchAt}
 use Rattle.script.proofs.Scripts.{fits-script}
 use Rattle.audit_verdict.specs.Auditor.{faultOf, faultAt, judgeOf, knowNext}
 use Rattle.audit_verdict.specs.declared.verdicts.Knowledge.{Knowledge}
-use Rattle.audit_script.proofs.Turns.{Going, going-first, going-none, going-exit, going-bad, going-on, going-fits}
+use Rattle.audit_script.proofs.Walking.{Going, going-first, going-none, going-exit, going-bad, going-on, going-fits}
 use Rattle.audit_script.proofs.auditor.walk.Statement.{statement}
 use Rattle.audit_script.proofs.auditor.walk.Tie as tie
 

@@ -16,7 +16,12 @@ returns c =
 returns-2 : tie.Need-returns-2
 returns-2 c =
     let e = c .before .before .before in
-    simp (not-false (e .before .args .executing) (e .if1 .left), eq-eqb _ _ (c .before .if2 .taken), c .is-start .ensures, or-false (not (isStart (e .before .args .word))))
+    simp (
+      not-false (e .before .args .executing) (e .if1 .left),
+      eq-eqb _ _ (c .before .if2 .taken),
+      c .is-start .ensures,
+      or-false (not (isStart (e .before .args .word))),
+    )
 
 returns-3 : tie.Need-returns-3
 returns-3 c =

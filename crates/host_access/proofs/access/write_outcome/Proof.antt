@@ -21,14 +21,22 @@ unfolding writeOutcome
 returns-3 c =
     let w = c .before in
     let k = w .before .before in
-    simp (sym (k .before .known-family .ensures) ∙ not-false _ (k .if1 .left), sym (w .before .is-writable .ensures) ∙ not-false _ (w .if2 .left), not-true (k .before .before .args .taken) (c .if3 .taken))
+    simp (
+      sym (k .before .known-family .ensures) ∙ not-false _ (k .if1 .left),
+      sym (w .before .is-writable .ensures) ∙ not-false _ (w .if2 .left),
+      not-true (k .before .before .args .taken) (c .if3 .taken),
+    )
 
 returns-4 : tie.Need-returns-4
 unfolding writeOutcome
 returns-4 c =
     let w = c .before in
     let k = w .before .before in
-    simp (sym (k .before .known-family .ensures) ∙ not-false _ (k .if1 .left), sym (w .before .is-writable .ensures) ∙ not-false _ (w .if2 .left), not-false (k .before .before .args .taken) (c .if3 .left))
+    simp (
+      sym (k .before .known-family .ensures) ∙ not-false _ (k .if1 .left),
+      sym (w .before .is-writable .ensures) ∙ not-false _ (w .if2 .left),
+      not-false (k .before .before .args .taken) (c .if3 .left),
+    )
 
 pub write-outcome-spec : {M : Type 1} → statement M
 write-outcome-spec = tie.close (tie.spec (λ c κs. search needs) returns (λ c κs. search needs) returns-2 returns-3 returns-4)

@@ -44,8 +44,16 @@ returns-9 c =
     let at = c .before .before .args .address .0 in
     let n = c .before .match .rest in
     c .code-at .ensures
-    ∙ simp
-    (ne-eqb at 0x001098 (n .0 .0 .0 .0 .0 .0 .0 .1), ne-eqb at 0x001304 (n .0 .0 .0 .0 .0 .0 .1), ne-eqb at 0x001308 (n .0 .0 .0 .0 .0 .1), ne-eqb at 0x00130c (n .0 .0 .0 .0 .1), ne-eqb at 0x001310 (n .0 .0 .0 .1), ne-eqb at 0x001314 (n .0 .0 .1), ne-eqb at 0x001318 (n .0 .1), ne-eqb at 0x001578 (n .1))
+    ∙ simp (
+      ne-eqb at 0x001098 (n .0 .0 .0 .0 .0 .0 .0 .1),
+      ne-eqb at 0x001304 (n .0 .0 .0 .0 .0 .0 .1),
+      ne-eqb at 0x001308 (n .0 .0 .0 .0 .0 .1),
+      ne-eqb at 0x00130c (n .0 .0 .0 .0 .1),
+      ne-eqb at 0x001310 (n .0 .0 .0 .1),
+      ne-eqb at 0x001314 (n .0 .0 .1),
+      ne-eqb at 0x001318 (n .0 .1),
+      ne-eqb at 0x001578 (n .1),
+    )
 
 pub register-at-spec : {M : Type 1} → statement M
 register-at-spec =

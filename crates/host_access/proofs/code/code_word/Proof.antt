@@ -12,4 +12,15 @@ returns c =
     simp (c .word-of .ensures, b .before .uploaded-byte .ensures, b .uploaded-byte2 .ensures, d .before .uploaded-byte3 .ensures, d .uploaded-byte4 .ensures)
 
 pub code-word-spec : {M : Type 1} → statement M
-code-word-spec = tie.close (tie.spec (λ c κs. search needs) (λ c. search needs) (λ c κs. search needs) (λ c. search needs) (λ c κs. search needs) (λ c. search needs) (λ c κs. search needs) (λ c κs. search needs) returns)
+code-word-spec =
+    tie.close
+    (tie.spec
+    (λ c κs. search needs)
+    (λ c. search needs)
+    (λ c κs. search needs)
+    (λ c. search needs)
+    (λ c κs. search needs)
+    (λ c. search needs)
+    (λ c κs. search needs)
+    (λ c κs. search needs)
+    returns)

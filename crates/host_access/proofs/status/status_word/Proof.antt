@@ -7,7 +7,11 @@ use Rattle.host_access.proofs.status.status_word.Tie as tie
 
 returns : tie.Need-returns
 unfolding statusWord
-returns c = simp (sym (c .before .before .before .has-slot .ensures) ∙ c .before .before .if1 .taken, c .slot-status2 .ensures .0, c .before .slot-status .ensures .0)
+returns c = simp (
+  sym (c .before .before .before .has-slot .ensures) ∙ c .before .before .if1 .taken,
+  c .slot-status2 .ensures .0,
+  c .before .slot-status .ensures .0,
+)
 
 returns-2 : tie.Need-returns-2
 unfolding statusWord

@@ -12,29 +12,38 @@ use Rattle.isa.proofs.Reading.{no-family, no-byte, short, whole, read-numbered}
 use Rattle.isa_reader.proofs.decoding.decode.Statement.{statement}
 use Rattle.isa_reader.proofs.decoding.decode.Tie as tie
 
-spelled-so : (c : tie.After-shared-slice-known) {r : Decoded} → r ≡ decodeOf (c .before .args .family) (now (c .before .args .bytes)) → Reads (c .before .args .family) (now (c .before .args .bytes)) r
+spelled-so : (c : tie.After-shared-slice-known) {r : Decoded} → r ≡ decodeOf (c .before .args .family) (now (c .before .args .bytes))
+    → Reads (c .before .args .family) (now (c .before .args .bytes)) r
 spelled-so c e =
     let bs = now (c .before .args .bytes) in
     let family = c .before .args .family in
-    record { answered = e; numbered = ap decodedNumber e ∙ read-numbered family bs; spelled-so = subst (OneSpelling family bs) (sym e) (one-spelling family bs (λ j. c .shared-slice-known .given j .fits)) }
+    record {
+      answered = e;
+      numbered = ap decodedNumber e ∙ read-numbered family bs;
+      spelled-so = subst (OneSpelling family bs) (sym e) (one-spelling family bs
+          (λ j. c .shared-slice-known .given j .fits));
+    }
 
 returns : tie.Need-returns
 returns c = spelled-so (c .before .before) (no-family _ _ (sym (c .before .known-family .ensures) ∙ not-true _ (c .if1 .taken)))
 
 returns-2 : tie.Need-returns-2
-returns-2 c = spelled-so (c .before .before .before) (no-byte _ _ (sym (c .before .before .known-family .ensures) ∙ not-false _ (c .before .if1 .left)) (omega arith))
+returns-2 c = spelled-so (c .before .before .before) (no-byte _ _ (sym (c .before .before .known-family .ensures)
+    ∙ not-false _ (c .before .if1 .left)) (omega arith))
 
 returns-3 : tie.Need-returns-3
 returns-3 c =
     let k = c .before .before .before .before .before .before in
     spelled-so (k .before .before)
-    (c .read-as .ensures ∙ whole _ _ _ (sym (k .before .known-family .ensures) ∙ not-false _ (k .if1 .left)) (omega arith) (c .before .before .before .opcode-at .ensures) (omega arith))
+    (c .read-as .ensures ∙ whole _ _ _ (sym (k .before .known-family .ensures) ∙ not-false _ (k .if1 .left)) (omega arith) (c .before .before .before
+    .opcode-at .ensures) (omega arith))
 
 returns-4 : tie.Need-returns-4
 returns-4 c =
     let k = c .before .before .before .before .before in
     spelled-so (k .before .before)
-    (short _ _ (c .before .before .opcode-at .result) (sym (k .before .known-family .ensures) ∙ not-false _ (k .if1 .left)) (omega arith) (c .before .before .opcode-at .ensures) (omega arith))
+    (short _ _ (c .before .before .opcode-at .result) (sym (k .before .known-family .ensures) ∙ not-false _ (k .if1 .left)) (omega arith) (c .before .before
+    .opcode-at .ensures) (omega arith))
 
 pub decode-spec : {M : Type 1} → statement M
 decode-spec =

@@ -59,7 +59,8 @@ returns-2 c =
 returns-3 : tie.Need-returns-3
 returns-3 c =
     let g = c .before .spelling3 .given in
-    rw (g .1) (over (g .0 .0 ∷ g .0 .1 .0 ∷ g .0 .1 .1 .0 ∷ g .0 .1 .1 .1 .0 ∷ g .0 .1 .1 .1 .1 .0 ∷ []) (c .before .before .before .args .out .now) (omega (arith, ap width (g .1))))
+    rw (g .1) (over (g .0 .0 ∷ g .0 .1 .0 ∷ g .0 .1 .1 .0 ∷ g .0 .1 .1 .1 .0 ∷ g .0 .1 .1 .1 .1 .0 ∷ []) (c .before .before .before .args .out .now) (omega
+    (arith, ap width (g .1))))
 
 pub put-spec : {M : Type 1} → statement M
 put-spec =

@@ -1,9 +1,5 @@
 -- Assumes nothing.
-use mathlib.Core.Path.{_≡_, sym, _∙_}
-use mathlib.Core.Bool.{true, false, not, _&&_}
-use Rattle.machine_state.specs.Slot.{hasSlot, isIdle}
-use Rattle.machine_state.specs.declared.slots.SlotName.{SlotName}
-use Rattle.machine_state.specs.declared.state.State.{State}
+use mathlib.Core.Path.{sym, _∙_}
 use Rattle.job_output.proofs.ScriptLaws.{executing-a, executing-b}
 use borrow.Author.Needs.{needs}
 use Rattle.job_output.proofs.runs.executing.Statement.{statement}

@@ -1,6 +1,5 @@
 -- Assumes nothing.
 use denote.Ref.{now}
-use Prim.Native.Nat.{ℕ}
 use mathlib.Core.Path.{_≡_, sym, _∙_}
 use Rattle.job_records.specs.Inside.{shapeNumber}
 use Rattle.job_records.proofs.KindTests.{shape-refused, end-own}

@@ -1,14 +1,11 @@
 -- Assumes nothing.
 use denote.Ref.{now}
-use Prim.Native.Nat.{ℕ, _≤_}
+use Prim.Native.Nat.{ℕ}
 use mathlib.Core.Path.{_≡_, refl, sym, _∙_}
 use mathlib.Core.Bool.{true, false}
 use mathlib.Core.List.{List}
-use native.Mathlib.Omega.{arith}
-use lib.ListN.{length}
 use borrow.Author.Tests.{not-true, not-false}
 use Rattle.families.specs.Family.{knownFamily}
-use Rattle.host_registers.specs.Access.{blankState}
 use Rattle.machine_state.specs.Sequencer.{stateFrom}
 use Rattle.machine_state.specs.declared.state.State.{State}
 use Rattle.job_records.specs.Inside.{shapeNumber}

@@ -59,7 +59,12 @@ returns-2 : tie.Need-returns-2
 returns-2 c =
     let l = c .before in
     let e = l .before .before in
-    let below : ltb (wordAt (rest e) 5) (wordAt (rest e) 1) ≡ true = lt-ltb (wordAt (rest e) 5) (wordAt (rest e) 1) (omega (arith, c .if2 .taken, l .word-in2 .ensures, l .before .word-in .ensures)) in
+    let below : ltb (wordAt (rest e) 5) (wordAt (rest e) 1) ≡ true = lt-ltb (wordAt (rest e) 5) (wordAt (rest e) 1) (omega (
+      arith,
+      c .if2 .taken,
+      l .word-in2 .ensures,
+      l .before .word-in .ensures,
+    )) in
     record { tested = λ s. sym (range-own (rest e) (counts e) (start e .pre) (fine e) s ∙ rw below); bounds = refl }
 
 mul-bounds : tie.Need-mul-bounds
@@ -90,7 +95,12 @@ returns-3 c =
     let is = start e .pre in
     let first = l .before .word-in .ensures in
     let last = l .word-in2 .ensures in
-    let above : ltb (wordAt (rest e) 5) (wordAt (rest e) 1) ≡ false = le-ltb (wordAt (rest e) 5) (wordAt (rest e) 1) (omega (arith, c .if2 .left, first, last)) in
+    let above : ltb (wordAt (rest e) 5) (wordAt (rest e) 1) ≡ false = le-ltb (wordAt (rest e) 5) (wordAt (rest e) 1) (omega (
+      arith,
+      c .if2 .left,
+      first,
+      last,
+    )) in
     record {
       tested = λ s. sym (range-own (rest e) (counts e) is (fine e) s ∙ rw above);
       bounds = range-stored (rest e) _ (counts e .ranges) is first last;

@@ -25,7 +25,11 @@ returns c = record {
 
 returns-2 : tie.Need-returns-2
 unfolding readOf
-returns-2 c = record { answered = c .read-records .ensures .answered ∙ simp (le-ltb _ _ (c .before .if1 .left)); sound = c .read-records .ensures .sound; started = c .read-records .ensures .started }
+returns-2 c = record {
+  answered = c .read-records .ensures .answered ∙ simp (le-ltb _ _ (c .before .if1 .left));
+  sound = c .read-records .ensures .sound;
+  started = c .read-records .ensures .started;
+}
 
 pub read-job-spec : {M : Type 1} → statement M
 read-job-spec = tie.close (tie.spec (λ c κs. search needs) (λ c κs. search needs) returns (λ c κs. search needs) returns-2)

@@ -2,11 +2,9 @@
 use denote.Ref.{now}
 use Prim.Native.Nat.{ℕ, suc, _+_, _-_, _≤_, _<_}
 use mathlib.Core.Path.{_≡_, refl, ap, sym, subst, _∙_}
-use mathlib.Core.Bool.{Bool, true, false}
 use mathlib.Core.List.{List}
 use mathlib.Core.Logic.{⊎-elim}
 use native.Mathlib.Omega.{arith}
-use lib.Dec.{eqb}
 use lib.ListN.{length, take, drop, replicate, length-drop}
 use borrow.Author.Tests.{eqb-true, eqb-false, ne-eqb}
 use Rattle.host_registers.specs.Access.{blankState}
@@ -16,7 +14,6 @@ use Rattle.machine_state.specs.declared.state.State.{State}
 use Rattle.job_records.specs.Words.{byteAt}
 use Rattle.job_records.specs.Records.{kindOf}
 use Rattle.job_records.specs.Job.{counted, emptyJob, afterRecord}
-use Rattle.job_records.specs.Refusals.{refusalOf}
 use Rattle.job_records.specs.Reader.{readAt, readIn, Sound}
 use Rattle.job_records.specs.Started.{Started}
 use Rattle.job_records.specs.declared.contents.Counts.{Counts}
@@ -26,7 +23,8 @@ use Rattle.job_records.specs.declared.jobs.JobRead.{JobRead}
 use Rattle.job_records.proofs.Clear.{Clear, clear, end-started}
 use Rattle.job_records.proofs.Growth.{Going, going-empty, going-on, going-sound}
 use Rattle.job_records.proofs.KindTests.{no-kind}
-use Rattle.job_records.proofs.Reading.{from, read-next, read-fault, read-end, withCounts, Reached, row-reached, range-reached, state-reached, end-reached, none-reached}
+use Rattle.job_records.proofs.Reading.{from, read-next, read-fault, read-end, withCounts}
+use Rattle.job_records.proofs.Reading.{Reached, row-reached, range-reached, state-reached, end-reached, none-reached}
 use Rattle.job_records.proofs.Starting.{started}
 use borrow.Author.Needs.{needs}
 use Rattle.job_records.proofs.jobs.read_records.Statement.{statement}
@@ -66,13 +64,14 @@ abbrev lent : tie.At-loop Inv-loop μ-loop → List ℕ
 lent l = take (length (input l) - l .loop .at) (rest l)
 
 abbrev job : tie.At-loop Inv-loop μ-loop → Job
-job l = jobOf (l .loop .counts) (l .loop .bounds) (stateFrom (l .loop .sequencer) (l .loop .code) (l .loop .marks)) (l .loop .clocks) (l .loop .known) (l .loop .values)
+job l = jobOf (l .loop .counts) (l .loop .bounds) (stateFrom (l .loop .sequencer) (l .loop .code) (l .loop .marks)) (l .loop .clocks) (l .loop .known)
+    (l .loop .values)
 
-abbrev turn : tie.After-byte-at Inv-loop μ-loop → tie.At-loop Inv-loop μ-loop
-turn c = c .before .before
+abbrev loop-at : tie.After-byte-at Inv-loop μ-loop → tie.At-loop Inv-loop μ-loop
+loop-at c = c .before .before
 
-kind-is : (c : tie.After-byte-at Inv-loop μ-loop) → c .byte-at .result ≡ byteAt (rest (turn c)) 0
-kind-is c = c .byte-at .ensures ∙ ap (λ (r : List ℕ). byteAt r 0) (from (input (turn c)) (turn c .loop .at))
+kind-is : (c : tie.After-byte-at Inv-loop μ-loop) → c .byte-at .result ≡ byteAt (rest (loop-at c)) 0
+kind-is c = c .byte-at .ensures ∙ ap (λ (r : List ℕ). byteAt r 0) (from (input (loop-at c)) (loop-at c .loop .at))
 
 -- ---- the kind's call, and what it left
 
@@ -94,7 +93,7 @@ read-end-requires c κs = let m = c .before in sym (m .before .byte-at .ensures)
 abbrev after : tie.At-match-came Inv-loop μ-loop → Job
 after c =
     let m = c .match in
-    jobOf (turn (c .before) .loop .counts) (m .bounds) (stateFrom (m .sequencer) (m .code) (m .marks)) (m .clocks) (m .known) (m .values)
+    jobOf (loop-at (c .before) .loop .counts) (m .bounds) (stateFrom (m .sequencer) (m .code) (m .marks)) (m .clocks) (m .known) (m .values)
 
 -- the same of variables that are equal, and of the bytes as they are lent
 module _ {given rest : List ℕ} {j : Job} (same : given ≡ rest) where
@@ -103,9 +102,9 @@ module _ {given rest : List ℕ} {j : Job} (same : given ≡ rest) where
       → Reached given j number' (jobOf counts b' (stateFrom q' c' m') k' n' v') → Reached rest j number (jobOf counts b (stateFrom q c m) k n v)
   told b q c m k n v e r = rw (b, q, c, m, k, n, v, e, ← same) r
 
-reached : (c : tie.At-match-came Inv-loop μ-loop) → Reached (rest (turn (c .before))) (job (turn (c .before))) (c .match .number) (after c)
+reached : (c : tie.At-match-came Inv-loop μ-loop) → Reached (rest (loop-at (c .before))) (job (loop-at (c .before))) (c .match .number) (after c)
 reached c =
-    let l = turn (c .before) in
+    let l = loop-at (c .before) in
     let same = from (input l) (l .loop .at) in
     let kind = sym (c .before .byte-at .ensures) in
     ⊎-elim
@@ -135,19 +134,21 @@ reached c =
 -- ---- the end of the reading
 
 -- where it ends the record is refused, or the end
-ends : (c : tie.Joined1 Inv-loop μ-loop) → c .before .match .number ≡ 0 → byteAt (rest (turn (c .before .before))) 0 ≡ 0
-ends c z = ⊎-elim (λ w. absurd (w .taken z)) (λ w. sym (kind-is (c .before .before)) ∙ eqb-true (c .before .before .byte-at .result) 0 (w .1 .taken)) (c .if1 .came)
+ends : (c : tie.Joined1 Inv-loop μ-loop) → c .before .match .number ≡ 0 → byteAt (rest (loop-at (c .before .before))) 0 ≡ 0
+ends c z = ⊎-elim (λ w. absurd (w .taken z)) (λ w. sym (kind-is (c .before .before)) ∙ eqb-true (c .before .before .byte-at .result) 0 (w .1 .taken))
+    (c .if1 .came)
 
 answer-is : (c : tie.After-read-at Inv-loop μ-loop)
     → let m = c .before .before .before in
-    let l = turn (m .before) in
+    let l = loop-at (m .before) in
     c .read-at .result ≡ readAt (m .match .number) (l .loop .at) (job l)
 answer-is c =
     let i = c .before .before in
     let m = i .before in
-    let l = turn (m .before) in
+    let l = loop-at (m .before) in
     c .read-at .ensures
-    ∙ ap (λ (s : State). readAt (m .match .number) (l .loop .at) (jobOf (l .loop .counts) (m .match .bounds) s (m .match .clocks) (m .match .known) (m .match .values)))
+    ∙ ap (λ (s : State). readAt (m .match .number) (l .loop .at) (jobOf (l .loop .counts) (m .match .bounds) s (m .match .clocks) (m .match .known)
+    (m .match .values)))
     (c .before .state-from .ensures)
     ∙ ap (λ (j : Job). readAt (m .match .number) (l .loop .at) j) (reached m .kept (ends i))
 
@@ -155,7 +156,8 @@ loop-holds : tie.Need-loop-holds Inv-loop μ-loop
 unfolding emptyJob blankState
 loop-holds c =
     let bytes = now (c .before .before .before .args .bytes) in
-    let e : jobOf (c .before .no-counts .result) (replicate 128 0) (stateFrom (c .fresh-sequencer .result) (replicate 512 0) (replicate 512 0)) (replicate 1024 0)
+    let e : jobOf (c .before .no-counts .result) (replicate 128 0) (stateFrom (c .fresh-sequencer .result) (replicate 512 0) (replicate 512 0))
+    (replicate 1024 0)
     (replicate 1024 0) (replicate 1024 0)
     ≡ emptyJob = simp (c .before .no-counts .ensures, c .fresh-sequencer .ensures) in
     (search needs, subst Going (sym e) going-empty, (suc (length bytes), omega arith, ap (readIn (suc (length bytes)) bytes 0) e))
@@ -164,7 +166,7 @@ returns : tie.Need-returns Inv-loop μ-loop
 returns c =
     let i = c .before .before in
     let m = i .before in
-    let l = turn (m .before) in
+    let l = loop-at (m .before) in
     let e = answer-is c in
     let t = reached m .tested in
     let fuel = l .loop .inv .2 in
@@ -191,35 +193,36 @@ abbrev left : tie.After-kind-of Inv-loop μ-loop → tie.At-match-came Inv-loop 
 left k = k .before .before .before
 
 -- a record without fault
-clear-of : (k : tie.After-kind-of Inv-loop μ-loop) → let l = turn (left k .before) in Clear (rest l) (l .loop .counts) (job l .state)
+clear-of : (k : tie.After-kind-of Inv-loop μ-loop) → let l = loop-at (left k .before) in Clear (rest l) (l .loop .counts) (job l .state)
 clear-of k =
-    let l = turn (left k .before) in
+    let l = loop-at (left k .before) in
     clear (rest l) (l .loop .counts) (job l .state) (sym (reached (left k) .tested) ∙ k .before .before .if1 .left)
 
-body-is : (k : tie.After-kind-of Inv-loop μ-loop) → let l = turn (left k .before) in k .kind-of .result .body ≡ kindOf (l .loop .counts) (byteAt (rest l) 0) .body
+body-is : (k : tie.After-kind-of Inv-loop μ-loop)
+    → let l = loop-at (left k .before) in k .kind-of .result .body ≡ kindOf (l .loop .counts) (byteAt (rest l) 0) .body
 body-is k =
-    let l = turn (left k .before) in
+    let l = loop-at (left k .before) in
     ap (λ (x : Kind). x .body) (k .kind-of .ensures .0 ∙ ap (kindOf (l .loop .counts)) (kind-is (left k .before)))
 
-within : (k : tie.After-kind-of Inv-loop μ-loop) → let l = turn (left k .before) in l .loop .at + (1 + k .kind-of .result .body) ≤ length (input l)
+within : (k : tie.After-kind-of Inv-loop μ-loop) → let l = loop-at (left k .before) in l .loop .at + (1 + k .kind-of .result .body) ≤ length (input l)
 within k =
-    let l = turn (left k .before) in
+    let l = loop-at (left k .before) in
     omega (arith, clear-of k .whole, body-is k, length-drop (l .loop .at) (input l), l .loop .inv .0)
 
 add-at : tie.Need-add-at Inv-loop μ-loop
-add-at c = let k = c .before .before in omega (arith, within k, start (turn (left k .before)) .pre)
+add-at c = let k = c .before .before in omega (arith, within k, start (loop-at (left k .before)) .pre)
 
 loop-less : tie.Need-loop-less Inv-loop μ-loop
 loop-less c = let k = c .before .before in omega (arith, within k)
 
 counted-requires : tie.Need-counted-requires Inv-loop μ-loop
-counted-requires c κs = turn (left (c .before) .before) .loop .inv .1 .fit
+counted-requires c κs = loop-at (left (c .before) .before) .loop .inv .1 .fit
 
 loop-again : tie.Need-loop-again Inv-loop μ-loop
 loop-again c =
     let k = c .before .before in
     let m = left k in
-    let l = turn (m .before) in
+    let l = loop-at (m .before) in
     let s = input l in
     let at = l .loop .at in
     let fuel = l .loop .inv .2 in
@@ -238,7 +241,8 @@ loop-again c =
       (
         next .0,
         omega (arith, next .1, body),
-        ap (λ (n : ℕ). readIn (next .0) s (at + (1 + n)) j') body ∙ ap (readIn (next .0) s (at + (1 + kindOf (l .loop .counts) (byteAt (rest l) 0) .body))) e ∙ next .2,
+        ap (λ (n : ℕ). readIn (next .0) s (at + (1 + n)) j') body ∙ ap (readIn (next .0) s (at + (1 + kindOf (l .loop .counts) (byteAt (rest l) 0) .body))) e
+            ∙ next .2,
       ),
     )
 

@@ -1,7 +1,6 @@
 -- Assumes nothing.
 use borrow.Author.Tests.{eq-eqb, ne-eqb}
 use Rattle.job_records.specs.Records.{isOutOfOrder}
-use borrow.Author.Needs.{needs}
 use Rattle.job_records.proofs.kinds.is_out_of_order.Statement.{statement}
 use Rattle.job_records.proofs.kinds.is_out_of_order.Tie as tie
 

@@ -35,8 +35,10 @@ returns-6 : tie.Need-returns-6
 unfolding kindOf
 returns-6 c =
     let k = c .before .before .args .byte in
-    let n = c .before .match .rest in
-    (c .entry6 .ensures ∙ simp (ne-eqb k 4 (n .0 .0 .0 .0 .1), ne-eqb k 3 (n .0 .0 .0 .1), ne-eqb k 2 (n .0 .0 .1), ne-eqb k 1 (n .0 .1), ne-eqb k 0 (n .1)), small (c .entry6 .ensures) (search needs))
+    let n = c .before .match .rest in (
+      c .entry6 .ensures ∙ simp (ne-eqb k 4 (n .0 .0 .0 .0 .1), ne-eqb k 3 (n .0 .0 .0 .1), ne-eqb k 2 (n .0 .0 .1), ne-eqb k 1 (n .0 .1), ne-eqb k 0 (n .1)),
+      small (c .entry6 .ensures) (search needs),
+    )
 
 pub kind-of-spec : {M : Type 1} → statement M
 kind-of-spec =

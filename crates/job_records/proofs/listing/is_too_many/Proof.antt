@@ -1,7 +1,6 @@
 -- Assumes nothing.
 use mathlib.Core.Path.{refl}
 use Rattle.job_records.specs.Refusals.{isTooMany}
-use borrow.Author.Needs.{needs}
 use Rattle.job_records.proofs.listing.is_too_many.Statement.{statement}
 use Rattle.job_records.proofs.listing.is_too_many.Tie as tie
 

@@ -1,7 +1,6 @@
 -- Assumes nothing.
 use borrow.Author.Tests.{eq-eqb, ne-eqb}
 use Rattle.job_records.specs.Refusals.{isUnknown}
-use borrow.Author.Needs.{needs}
 use Rattle.job_records.proofs.listing.is_unknown.Statement.{statement}
 use Rattle.job_records.proofs.listing.is_unknown.Tie as tie
 

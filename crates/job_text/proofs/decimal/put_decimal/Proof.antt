@@ -9,7 +9,7 @@ use lib.ListN.{length, take, drop, set, length-set, length-drop}
 use lib.Seq.{take-all}
 use Rattle.job_text.specs.Digits.{digit, decimalIn, decimal}
 use Rattle.job_text.proofs.PutLaws.{puts-as}
-use Rattle.job_text.proofs.DecimalLaws.{turn, end, down, digits-of}
+use Rattle.job_text.proofs.DecimalLaws.{next-digit, end, down, digits-of}
 use Rattle.job_text.proofs.decimal.put_decimal.Statement.{statement}
 use Rattle.job_text.proofs.decimal.put_decimal.Tie as tie
 
@@ -36,12 +36,13 @@ loop-again c =
       search needs,
       next .0,
       next .1,
-      turn (l .text) (l .first) (l .rest) (l .inv .2) (omega arith) (c .loop-test .taken) ∙ l .inv .4,
+      next-digit (l .text) (l .first) (l .rest) (l .inv .2) (omega arith) (c .loop-test .taken) ∙ l .inv .4,
     )
 
 -- the part of the array that is put is the number's digits
 whole : (c : tie.After-loop Inv-loop μ-loop)
-    → take (20 - (c .before .loop .first - 1)) (drop (c .before .loop .first - 1) (set (c .before .loop .text) (c .before .loop .first - 1) (digit (c .before .loop .rest))))
+    → take (20 - (c .before .loop .first - 1)) (drop (c .before .loop .first - 1) (set (c .before .loop .text) (c .before .loop .first - 1) (digit
+    (c .before .loop .rest))))
     ≡ decimal (c .before .before .args .n)
 whole c =
     let l = c .before .loop in

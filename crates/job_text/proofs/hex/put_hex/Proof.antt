@@ -7,7 +7,7 @@ use borrow.Author.Needs.{needs}
 use lib.ListN.{length, drop, set, length-set}
 use Rattle.job_text.specs.Digits.{hexIn, hexWord}
 use Rattle.job_text.proofs.PutLaws.{puts-as}
-use Rattle.job_text.proofs.HexLaws.{turn, end, eight}
+use Rattle.job_text.proofs.HexLaws.{next-digit, end, eight}
 use Rattle.job_text.proofs.hex.put_hex.Statement.{statement}
 use Rattle.job_text.proofs.hex.put_hex.Tie as tie
 
@@ -29,7 +29,7 @@ loop-again c =
       length-set (l .text) (l .first - 1) (c .hex-digit .result) ∙ l .inv .0,
       search needs,
       ap (λ (b : ℕ). hexIn (l .first - 1) (l .rest / 16) ++ drop (l .first - 1) (set (l .text) (l .first - 1) b)) byte
-          ∙ turn (l .text) (l .first) (l .rest) (omega arith) (omega arith)
+          ∙ next-digit (l .text) (l .first) (l .rest) (omega arith) (omega arith)
           ∙ l .inv .2,
     )
 

@@ -19,12 +19,14 @@ abbrev μ-loop : tie.MeasureT-loop
 returns : tie.Need-returns Inv-loop μ-loop
 returns c =
     let l = c .before .before .before .before in
-    range-not (l .before .before .args .clocks .now) (l .loop .row) (omega arith) (sym (c .before .clocks-in-range .ensures) ∙ not-true _ (c .if1 .taken)) ∙ l .loop .inv
+    range-not (l .before .before .args .clocks .now) (l .loop .row) (omega arith) (sym (c .before .clocks-in-range .ensures) ∙ not-true _ (c .if1 .taken))
+    ∙ l .loop .inv
 
 loop-again : tie.Need-loop-again Inv-loop μ-loop
 loop-again c =
     let l = c .before .before .before .before in
-    range-next (l .before .before .args .clocks .now) (l .loop .row) (omega arith) (sym (c .before .clocks-in-range .ensures) ∙ not-false _ (c .if1 .left)) ∙ l .loop .inv
+    range-next (l .before .before .args .clocks .now) (l .loop .row) (omega arith) (sym (c .before .clocks-in-range .ensures) ∙ not-false _ (c .if1 .left))
+    ∙ l .loop .inv
 
 returns-2 : tie.Need-returns-2 Inv-loop μ-loop
 returns-2 c = let l = c .before in range-end (l .before .before .args .clocks .now) (l .loop .row) (omega arith) ∙ l .loop .inv

@@ -24,13 +24,21 @@ returns-3 : tie.Need-returns-3
 unfolding validLog
 returns-3 c =
     let a = c .before .before .before .before .before .before .args in
-    rw (le-leb (length (now (a .clocks))) 1024 (c .before .before .if1 .left), eq-eqb (length (now (a .known))) (length (now (a .clocks))) (c .before .if2 .left), ne-eqb (length (now (a .values))) (length (now (a .clocks))) (omega arith))
+    rw (
+      le-leb (length (now (a .clocks))) 1024 (c .before .before .if1 .left),
+      eq-eqb (length (now (a .known))) (length (now (a .clocks))) (c .before .if2 .left),
+      ne-eqb (length (now (a .values))) (length (now (a .clocks))) (omega arith),
+    )
 
 returns-4 : tie.Need-returns-4
 unfolding validLog
 returns-4 c =
     let a = c .before .before .before .before .before .before .before .args in
-    rw (le-leb (length (now (a .clocks))) 1024 (c .before .before .before .if1 .left), eq-eqb (length (now (a .known))) (length (now (a .clocks))) (c .before .before .if2 .left), eq-eqb (length (now (a .values))) (length (now (a .clocks))) (omega arith)) (c .rows-in-range .ensures)
+    rw (
+      le-leb (length (now (a .clocks))) 1024 (c .before .before .before .if1 .left),
+      eq-eqb (length (now (a .known))) (length (now (a .clocks))) (c .before .before .if2 .left),
+      eq-eqb (length (now (a .values))) (length (now (a .clocks))) (omega arith),
+    ) (c .rows-in-range .ensures)
 
 pub valid-log-spec : {M : Type 1} → statement M
 valid-log-spec = tie.close (tie.spec returns returns-2 returns-3 (λ c κs. search needs) returns-4)

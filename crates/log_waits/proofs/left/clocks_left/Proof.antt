@@ -26,8 +26,10 @@ loop-again c =
     let l = test .before in
     let a = l .before .before .args in
     let v = l .loop in
-    let sum : c .wrapping-add-u64 .result ≡ (v .sum + (getD (now (a .clocks)) (v .row) 0 - v .used)) % 2 ^ 64 = c .wrapping-add-u64 .ensures ∙ ap (λ (x : ℕ). (v .sum + x) % 2 ^ 64) (c .before .unused .ensures) in (
-      ap (λ (x : ℕ). (x + leftFrom (now (a .clocks)) (v .row + 1) 0) % 2 ^ 64) sum ∙ (sym (left-sum-on (now (a .clocks)) (v .row) (v .used) (v .sum) (test .loop-test .taken)) ∙ v .inv .0),
+    let sum : c .wrapping-add-u64 .result ≡ (v .sum + (getD (now (a .clocks)) (v .row) 0 - v .used)) % 2 ^ 64 = c .wrapping-add-u64 .ensures
+    ∙ ap (λ (x : ℕ). (v .sum + x) % 2 ^ 64) (c .before .unused .ensures) in (
+      ap (λ (x : ℕ). (x + leftFrom (now (a .clocks)) (v .row + 1) 0) % 2 ^ 64) sum ∙ (sym (left-sum-on (now (a .clocks)) (v .row) (v .used) (v .sum)
+          (test .loop-test .taken)) ∙ v .inv .0),
       subst (λ (x : ℕ). x < 2 ^ 64) (sym sum) (mod-lt (v .sum + (getD (now (a .clocks)) (v .row) 0 - v .used)) (lit< tt)),
     )
 

@@ -12,15 +12,27 @@ returns c = simp (le-ltb _ _ (c .if1 .taken))
 
 returns-2 : tie.Need-returns-2
 unfolding valuesAfter enablesAfter
-returns-2 c = rw (c .enum-told .given .1, lt-ltb (c .before .before .before .args .flag) 32 (omega arith), one-shl (c .before .before .before .args .flag) (omega arith))
+returns-2 c = rw (
+  c .enum-told .given .1,
+  lt-ltb (c .before .before .before .args .flag) 32 (omega arith),
+  one-shl (c .before .before .before .args .flag) (omega arith),
+)
 
 returns-3 : tie.Need-returns-3
 unfolding valuesAfter enablesAfter
-returns-3 c = rw (c .enum-told2 .given .1, lt-ltb (c .before .before .before .args .flag) 32 (omega arith), one-shl (c .before .before .before .args .flag) (omega arith))
+returns-3 c = rw (
+  c .enum-told2 .given .1,
+  lt-ltb (c .before .before .before .args .flag) 32 (omega arith),
+  one-shl (c .before .before .before .args .flag) (omega arith),
+)
 
 returns-4 : tie.Need-returns-4
 unfolding valuesAfter enablesAfter
-returns-4 c = rw (c .enum-told3 .given .1, lt-ltb (c .before .before .before .args .flag) 32 (omega arith), one-shl (c .before .before .before .args .flag) (omega arith))
+returns-4 c = rw (
+  c .enum-told3 .given .1,
+  lt-ltb (c .before .before .before .args .flag) 32 (omega arith),
+  one-shl (c .before .before .before .args .flag) (omega arith),
+)
 
 pub changed-flags-spec : {M : Type 1} → statement M
 changed-flags-spec =

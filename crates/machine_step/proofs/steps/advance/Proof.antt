@@ -1,4 +1,4 @@
--- A slot that runs takes the turn that its fetch asks for. Assumes nothing.
+-- A slot that runs takes the step that its fetch asks for. Assumes nothing.
 use denote.Ref.{now}
 use mathlib.Core.Path.{_≡_, refl, sym, ap, _∙_}
 use native.Mathlib.Omega.{arith}
@@ -10,11 +10,11 @@ use Rattle.isa_fetch.specs.Fetch.{fetchOf, reasonOf}
 use Rattle.isa_fetch.proofs.Places.{ram-small}
 use Rattle.log.specs.Log.{Log, logOf}
 use Rattle.machine_state.specs.declared.slots.Slot.{Slot}
-use Rattle.machine_slot.specs.Turn.{turnOf}
-use Rattle.machine_slot.specs.declared.turn.Turn.{Turn}
-use Rattle.machine_step.specs.Step.{afterTurn, advanceOf}
-use Rattle.machine_step.proofs.StepLaws.{advance-still, advance-turn}
-use Rattle.machine_step.proofs.TakenTurns.{turn-unfetched, turn-performed}
+use Rattle.machine_slot.specs.SlotStep.{slotStepOf}
+use Rattle.machine_slot.specs.declared.slot_steps.SlotStep.{SlotStep}
+use Rattle.machine_step.specs.Step.{afterSlotStep, advanceOf}
+use Rattle.machine_step.proofs.StepLaws.{advance-still}
+use Rattle.machine_step.proofs.TakenSlotSteps.{slot-step-unfetched, slot-step-performed}
 use Rattle.machine_step.proofs.steps.advance.Statement.{statement}
 use Rattle.machine_step.proofs.steps.advance.Tie as tie
 
@@ -41,11 +41,12 @@ module _ (f : tie.After-fetch) where
   abbrev fetched : Decoded
   fetched = let s = entered .args .state in fetchOf (s .family) (s .code) (s .marks) (slot .ip .0)
 
-  -- the turn that its fetch asks for is the step
-  turned : (t : Turn) → (let s = entered .args .state in t ≡ turnOf (s .family) (s .enable) slot (s .flags) log (entered .args .at) fetched)
-      → (let a = entered .args in afterTurn (a .state) (a .name) t ≡ advanceOf (a .state) (a .name) log (a .at))
-  turned t e =
-      advance-turn _ _ _ _ slot (runs .before .before .slot-of .ensures) (sym (runs .before .can-run .ensures) ∙ not-false _ (runs .if1 .left)) fetched refl t e
+  -- the step that its fetch asks for is the step
+  stepped : (t : SlotStep) → (let s = entered .args .state in t ≡ slotStepOf (s .family) (s .enable) slot (s .flags) log (entered .args .at) fetched)
+      → (let a = entered .args in afterSlotStep (a .state) (a .name) t ≡ advanceOf (a .state) (a .name) log (a .at))
+  stepped t e =
+      advance-slot-step _ _ _ _ slot (runs .before .before .slot-of .ensures) (sym (runs .before .can-run .ensures)
+      ∙ not-false _ (runs .if1 .left)) fetched refl t e
 
 returns-2 : tie.Need-returns-2
 returns-2 c =
@@ -54,11 +55,11 @@ returns-2 c =
     let f = why .before .before .before in
     let s = entered f .args .state in
     let at : fetched f ≡ Decoded.Refused (told .0 .0) = sym (f .fetch .ensures .answered) ∙ told .1 in
-    let turn = c .before .unfetched .ensures
-    ∙ turn-unfetched (s .family) (s .code) (s .marks) (s .enable) (slot f) (s .flags) (log f) (entered f .args .at) (told .0 .0) at
+    let step = c .before .unfetched .ensures
+    ∙ slot-step-unfetched (s .family) (s .code) (s .marks) (s .enable) (slot f) (s .flags) (log f) (entered f .args .at) (told .0 .0) at
     (c .before .before .past-opcode .result .0) (ap (λ (p : CodeAddress). p .0) (c .before .before .past-opcode .ensures))
     (why .reason-of .result) (why .reason-of .ensures ∙ ap reasonOf (told .1)) in
-    c .after-turn .ensures ∙ turned f (c .before .unfetched .result) turn
+    c .after-slot-step .ensures ∙ stepped f (c .before .unfetched .result) step
 
 add-next : tie.Need-add-t29
 add-next c =
@@ -76,10 +77,10 @@ returns-3 c =
     let f = acts .before .before .before .before in
     let s = entered f .args .state in
     let at : fetched f ≡ Decoded.Instruction (told .0 .0) (told .0 .1 .0) = sym (f .fetch .ensures .answered) ∙ told .1 in
-    let turn = c .before .perform .ensures
-    ∙ turn-performed (s .family) (s .code) (s .marks) (s .enable) (slot f) (s .flags) (log f) (entered f .args .at) (told .0 .0) (told .0 .1 .0) at
+    let step = c .before .perform .ensures
+    ∙ slot-step-performed (s .family) (s .code) (s .marks) (s .enable) (slot f) (s .flags) (log f) (entered f .args .at) (told .0 .0) (told .0 .1 .0) at
     (acts .action-of .result) (acts .action-of .ensures) (time .elapse .result) (time .elapse .ensures) in
-    c .after-turn2 .ensures ∙ turned f (c .before .perform .result) turn
+    c .after-slot-step2 .ensures ∙ stepped f (c .before .perform .result) step
 
 pub advance-spec : {M : Type 1} → statement M
 advance-spec =

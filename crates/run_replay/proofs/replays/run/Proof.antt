@@ -29,8 +29,8 @@ returns-3 c =
     let log = sym (c .before .valid-log .ensures) ∙ not-true _ (c .if3 .taken) in
     runs-slot (simp (fits, le-leb _ _ (room .if2 .left), log)) refl
 
-run-turns-requires : tie.Need-run-turns-requires
-run-turns-requires c κs =
+run-slot-steps-requires : tie.Need-run-slot-steps-requires
+run-slot-steps-requires c κs =
     let l = c .before in
     let room = l .before .before in
     let e = room .before in
@@ -46,7 +46,7 @@ returns-4 c =
     let e = room .before in
     let fits = sym (e .before .script-fits .ensures) ∙ not-false _ (e .if1 .left) in
     let log = sym (l .before .valid-log .ensures) ∙ not-false _ (l .if3 .left) in
-    runs-slot (ap RunAnswer.Ended (t .run-turns .ensures .at-run) ∙ simp (fits, le-leb _ _ (room .if2 .left), log)) (t .run-turns .ensures .lent)
+    runs-slot (ap RunAnswer.Ended (t .run-slot-steps .ensures .at-run) ∙ simp (fits, le-leb _ _ (room .if2 .left), log)) (t .run-slot-steps .ensures .lent)
 
 pub run-spec : {M : Type 1} → statement M
 run-spec =
@@ -57,6 +57,6 @@ run-spec =
     returns-2
     (λ c κs. search needs)
     returns-3
-    run-turns-requires
+    run-slot-steps-requires
     (λ c. search needs)
     returns-4)
