@@ -13,7 +13,7 @@ use Rattle.machine_state.specs.declared.slots.Slot.{Slot}
 use Rattle.machine_slot.specs.SlotStep.{slotStepOf}
 use Rattle.machine_slot.specs.declared.slot_steps.SlotStep.{SlotStep}
 use Rattle.machine_step.specs.Step.{afterSlotStep, advanceOf}
-use Rattle.machine_step.proofs.StepLaws.{advance-still}
+use Rattle.machine_step.proofs.StepLaws.{advance-still, advance-slot-step}
 use Rattle.machine_step.proofs.TakenSlotSteps.{slot-step-unfetched, slot-step-performed}
 use Rattle.machine_step.proofs.steps.advance.Statement.{statement}
 use Rattle.machine_step.proofs.steps.advance.Tie as tie
