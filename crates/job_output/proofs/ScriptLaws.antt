@@ -21,7 +21,7 @@ use Rattle.run.proofs.Entries.{entries-length, written-entries}
 use Rattle.job_records.specs.Started.{executing}
 use Rattle.job_records.specs.declared.contents.Job.{Job}
 use Rattle.job_report.proofs.ScriptLaws.{script-fits, writes-few}
-use Rattle.job_report.specs.Script.{jobScene, jobRun}
+use Rattle.job_report.specs.JobScript.{jobScene, jobRun}
 use Rattle.job_output.specs.Inside.{RunsJob, ReadyToRun, RanJob}
 
 pub part-length : (n : ℕ) (l : List ℕ) → n ≤ length l → n ≡ length (take n l)

@@ -9,7 +9,7 @@ use Rattle.job_records.specs.Reader.{Sound}
 use Rattle.job_records.specs.Started.{Started, executing}
 use Rattle.job_records.specs.declared.contents.Job.{Job}
 use Rattle.job_report.specs.Lines.{writeLine}
-use Rattle.job_report.specs.Script.{jobScene, jobRun}
+use Rattle.job_report.specs.JobScript.{jobScene, jobRun}
 
 -- a line for each write in the lent entries: address and data of each
 abbrev pub pairLines : List ℕ → List ℕ

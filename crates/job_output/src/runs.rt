@@ -12,7 +12,7 @@ ghost use Rattle.script.specs.Script.{scriptOf};
 ghost use Rattle.script.specs.Input.{maxRanges};
 ghost use Rattle.machine_state.specs.declared.state.State.{State};
 ghost use Rattle.job_records.specs.Started.{executing as Started·executing};
-ghost use Rattle.job_report.specs.Script.{verdictOf, wordOf, statusOf};
+ghost use Rattle.job_report.specs.JobScript.{verdictOf, wordOf, statusOf};
 ghost use Rattle.job_output.specs.Inside.{RunsJob, ReadyToRun};
 use audit_verdict::Verdict;
 use host_registers::Reading;

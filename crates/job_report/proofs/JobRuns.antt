@@ -28,7 +28,7 @@ use Rattle.job_records.specs.Reader.{readOf, Sound}
 use Rattle.job_records.specs.Started.{Started, executing, codeOf, marksOf, scriptIn}
 use Rattle.job_records.specs.declared.contents.Job.{Job}
 use Rattle.job_report.specs.Lines.{familyLine, passLine, writeLines, rowLines, endLine, statusLine}
-use Rattle.job_report.specs.Script.{jobScene, jobRun, stepRun, statusOf}
+use Rattle.job_report.specs.JobScript.{jobScene, jobRun, stepRun, statusOf}
 use Rattle.job_report.specs.Report.{runLines, jobLines, reportOf, stepLines, Passed}
 use Rattle.job_report.proofs.ScriptLaws.{script-fits}
 

@@ -26,7 +26,7 @@ use Rattle.job_report.specs.Report.{runLines, verdictLines, jobLines}
 use Rattle.run.specs.Replay.{endingOf}
 use Rattle.machine_execution.specs.Execution.{executingSlot}
 use Rattle.machine_state.specs.Slot.{withSlot}
-use Rattle.job_report.specs.Script.{verdictOf, jobRun, statusOf}
+use Rattle.job_report.specs.JobScript.{verdictOf, jobRun, statusOf}
 use Rattle.job_report.proofs.ScriptLaws.{writes-few}
 
 named-short : (text : List ℕ) (n : ℕ) → length (named text n) ≤ length text + 20

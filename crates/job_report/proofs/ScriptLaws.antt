@@ -12,7 +12,7 @@ use Rattle.run.proofs.Room.{slot-room}
 use Rattle.job_records.specs.Job.{rangesOf}
 use Rattle.job_records.specs.Started.{Started, executing, scriptIn}
 use Rattle.job_records.specs.declared.contents.Job.{Job}
-use Rattle.job_report.specs.Script.{jobScene, jobRun}
+use Rattle.job_report.specs.JobScript.{jobScene, jobRun}
 
 module _ (j : Job) (started : Started j) where
   pub script-fits : scriptFits (scriptIn (j .state)) ≡ true

@@ -1,4 +1,4 @@
 pub mod Words
 pub mod Lines
-pub mod Script
+pub mod JobScript
 pub mod Report

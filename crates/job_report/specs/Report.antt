@@ -18,7 +18,7 @@ use Rattle.job_records.specs.Reader.{readOf}
 use Rattle.job_records.specs.declared.contents.Job.{Job}
 use Rattle.job_records.specs.declared.jobs.JobRead.{JobRead}
 use Rattle.job_report.specs.Lines.{refusedLine, familyLine, faultLine, passLine, writeLines, rowLines, endLine, statusLine}
-use Rattle.job_report.specs.Script.{verdictOf, jobRun, stepRun, statusOf}
+use Rattle.job_report.specs.JobScript.{verdictOf, jobRun, stepRun, statusOf}
 
 -- how a run ended, and the status then: the executing slot and the flags are as the run left them
 abbrev pub lastLines : State → Progress → List ℕ

@@ -10,7 +10,7 @@ use Rattle.audit_verdict.specs.declared.verdicts.Verdict.{Verdict}
 use Rattle.run.specs.declared.answers.Progress.{Progress}
 use Rattle.job_records.specs.declared.contents.Job.{Job}
 use Rattle.job_report.specs.Lines.{familyLine, faultLine, passLine}
-use Rattle.job_report.specs.Script.{verdictOf}
+use Rattle.job_report.specs.JobScript.{verdictOf}
 use Rattle.job_report.specs.Report.{runLines, verdictLines, jobLines}
 use Rattle.job_text.proofs.PutLaws.{then, stored-as}
 use Rattle.job_output.proofs.ScriptLaws.{part-length, never-refused, run-ends, entries-lie, entries-few, ran}

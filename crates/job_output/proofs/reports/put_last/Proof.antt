@@ -7,7 +7,7 @@ use Rattle.machine_state.specs.Slot.{withSlot}
 use Rattle.machine_state.specs.declared.slots.SlotName.{SlotName}
 use Rattle.machine_state.specs.declared.state.State.{State}
 use Rattle.job_report.specs.Lines.{endLine, statusLine}
-use Rattle.job_report.specs.Script.{statusOf}
+use Rattle.job_report.specs.JobScript.{statusOf}
 use Rattle.job_text.proofs.PutLaws.{then, stored-as}
 use borrow.Author.Needs.{needs}
 use Rattle.job_output.proofs.reports.put_last.Statement.{statement}

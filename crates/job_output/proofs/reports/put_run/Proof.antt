@@ -6,7 +6,7 @@ use Rattle.run.specs.Replay.{progressOf}
 use Rattle.job_records.specs.Job.{knownOf}
 use Rattle.job_report.specs.Lines.{writeLines, rowLines}
 use Rattle.job_output.specs.Inside.{pairLines}
-use Rattle.job_report.specs.Script.{jobRun}
+use Rattle.job_report.specs.JobScript.{jobRun}
 use Rattle.job_report.specs.Report.{lastLines, runLines}
 use Rattle.job_text.proofs.PutLaws.{then, stored-as}
 use Rattle.job_output.proofs.LineLaws.{pairs-writes}

@@ -1,5 +1,5 @@
 -- Assumes nothing.
-use Rattle.job_report.specs.Script.{statusOf}
+use Rattle.job_report.specs.JobScript.{statusOf}
 use borrow.Author.Needs.{needs}
 use Rattle.job_output.proofs.runs.status_of.Statement.{statement}
 use Rattle.job_output.proofs.runs.status_of.Tie as tie

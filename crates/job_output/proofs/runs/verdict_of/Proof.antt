@@ -1,6 +1,6 @@
 -- Assumes nothing.
 use mathlib.Core.Path.{refl, _∙_}
-use Rattle.job_report.specs.Script.{verdictOf}
+use Rattle.job_report.specs.JobScript.{verdictOf}
 use Rattle.job_output.proofs.ScriptLaws.{ram-room, bounds-room}
 use borrow.Author.Needs.{needs}
 use Rattle.job_output.proofs.runs.verdict_of.Statement.{statement}
