@@ -4,6 +4,7 @@ ghost use mathlib.Core.Bool.{cond, _&&_};
 ghost use lib.Dec.{eqb};
 ghost use Rattle.families.specs.Family.{pausesMemory};
 ghost use Prim.Native.Nat.{_+_, _^_, _<_};
+ghost use Rattle.machine_flags.specs.Flags.{fbPause};
 ghost use Rattle.audit_verdict.specs.Auditor.{targetOf, judgePoke, canRelease, judgeOf};
 ghost use Rattle.audit_verdict.specs.Auditor.{knownAddr, knownData, knownPaused, pokeCount, waitLength, loadsBoth, isSet1, knowNext, knowNothing};
 use audit_verdict::Judgement;
@@ -15,9 +16,6 @@ use machine_actions::Part;
 use machine_flags::Change;
 use refusals::Fault;
 use script::listed;
-
-// The flag whose override pauses memory.
-const FB_PAUSE: u8 = 16;
 
 // Where a poke goes, as far as the script has said.
 fn target_of(part: Part, word: u32, known: KnownAddress) -> KnownAddress
@@ -108,9 +106,9 @@ fn loads_both(part: Part, halves: bool) -> bool
 }
 
 fn touch(change: Change, flag: u8, paused: bool) -> bool
-    ensures { λ r. ⌜ r ≡ cond (eqb flag 16) (isSet1 change) paused ⌝ }
+    ensures { λ r. ⌜ r ≡ cond (eqb flag fbPause) (isSet1 change) paused ⌝ }
 {
-    if flag == FB_PAUSE {
+    if flag == machine_flags::FB_PAUSE {
         match change {
             Change::Unset => false,
             Change::Set1 => true,

@@ -10,6 +10,7 @@ use Rattle.isa.specs.declared.reader.Decoded.{Decoded}
 use Rattle.refusals.specs.declared.refusals.Unreadable.{Unreadable}
 use Rattle.machine_actions.specs.Action.{actionOf, mergeOf}
 use Rattle.machine_actions.specs.declared.actions.Action.{Action}
+use Rattle.machine_flags.specs.Flags.{fbPause}
 use Rattle.machine_flags.specs.declared.flags.Change.{Change}
 use Rattle.machine_actions.specs.declared.actions.Part.{Part}
 use Rattle.script.specs.Script.{Script, fetchAt}
@@ -95,7 +96,7 @@ isSet1 Change.Set0 = false
 abbrev pub knownPaused : Action → Bool → Bool
 knownPaused (Action.Wait n) paused = paused
 knownPaused (Action.Ewait event value) paused = paused
-knownPaused (Action.Flag change flag) paused = cond (eqb flag 16) (isSet1 change) paused
+knownPaused (Action.Flag change flag) paused = cond (eqb flag fbPause) (isSet1 change) paused
 knownPaused (Action.Load part word) paused = paused
 knownPaused (Action.Poke part word) paused = paused
 knownPaused Action.Exit paused = paused

@@ -35,9 +35,13 @@ changedFlags change flag flags =
 unfoldable pub overrides1 : ℕ → Flags → Bool
 overrides1 n flags = eqb (flags .enables / 2 ^ n % 2) 1 && eqb (flags .values / 2 ^ n % 2) 1
 
--- memory is paused while flag 16 is at override 1, on families 2 to 4
+-- the flag whose override pauses memory
+abbrev pub fbPause : ℕ
+fbPause = 16
+
+-- memory is paused while it is at override 1, on families 2 to 4
 abbrev pub pausedOf : ℕ → Flags → Bool
-pausedOf family flags = pausesMemory family && overrides1 16 flags
+pausedOf family flags = pausesMemory family && overrides1 fbPause flags
 
 -- FLAGS_0 and FLAGS_1: values in bits 0 to 15, enables in bits 16 to 31, of flags 0 to 15 and 16 to 31
 abbrev pub flagsWord0 : Flags → ℕ

@@ -15,7 +15,7 @@ pub struct Flags {
 }
 
 // The flag whose override pauses memory.
-const FB_PAUSE: u32 = 16;
+pub const FB_PAUSE: u8 = 16;
 
 // The flags after a change of one of them. There is no flag above 31.
 pub fn changed_flags(change: Change, flag: u8, flags: Flags) -> Flags
@@ -48,7 +48,7 @@ pub fn memory_paused(family: u8, flags: Flags) -> bool
     ensures { λ r. ⌜ r ≡ pausedOf family flags ⌝ }
 {
     if families::pauses_memory(family) {
-        (flags.enables >> FB_PAUSE) % 2 == 1 && (flags.values >> FB_PAUSE) % 2 == 1
+        (flags.enables >> FB_PAUSE as u32) % 2 == 1 && (flags.values >> FB_PAUSE as u32) % 2 == 1
     } else {
         false
     }

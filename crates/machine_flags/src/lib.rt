@@ -2,6 +2,7 @@
 mod flags;
 
 pub use flags::Change;
+pub use flags::FB_PAUSE;
 pub use flags::Flags;
 pub use flags::changed_flags;
 pub use flags::flags_from_words;

@@ -26,4 +26,14 @@ unfolding overrides1
 returns-3 c = rw (sym (c .before .pauses-memory .ensures) ∙ c .if1 .left)
 
 pub memory-paused-spec : {M : Type 1} → statement M
-memory-paused-spec = tie.close (tie.spec (λ c κs. search needs) returns returns-2 returns-3)
+memory-paused-spec =
+    tie.close
+    (tie.spec
+    (λ c κs. search needs)
+    (λ c. search needs)
+    (λ c. search needs)
+    (λ c. search needs)
+    (λ c. search needs)
+    returns
+    returns-2
+    returns-3)
