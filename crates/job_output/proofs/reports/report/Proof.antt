@@ -1,21 +1,30 @@
 -- Every report has room in the lent bytes. Assumes nothing.
 use denote.Ref.{now}
-use Prim.Native.Nat.{ℕ, _≤_}
-use mathlib.Core.Path.{_≡_, refl, ap, ap₂, subst, _∙_}
-use mathlib.Core.List.{List}
+use Prim.Native.Nat.{ℕ, _*_, _≤_}
+use mathlib.Core.Path.{_≡_, refl, ap, ap₂, sym, subst, _∙_}
+use mathlib.Core.List.{List, _++_}
 use native.Mathlib.Omega.{arith}
-use lib.ListN.{length, take, drop}
+use lib.ListN.{length, take, drop, replicate, length-replicate}
 use lib.Seq.{take-at}
 use borrow.Author.Tests.{eq-eqb, ne-eqb}
 use Rattle.job_text.specs.Put.{Stored}
+use Rattle.machine_state.specs.declared.sequencer.Sequencer.{Sequencer}
+use Rattle.run.specs.Replay.{progressOf}
+use Rattle.run.specs.declared.answers.Progress.{Progress}
+use Rattle.job_records.specs.Job.{knownOf, logIn}
 use Rattle.job_records.specs.Reader.{readOf}
+use Rattle.job_records.specs.declared.contents.Job.{Job}
 use Rattle.job_records.specs.declared.jobs.JobRead.{JobRead}
-use Rattle.job_report.specs.Lines.{refusedLine}
-use Rattle.job_report.specs.Report.{runLines, jobLines, reportOf, stepLines, Reports}
-use Rattle.job_output.specs.Inside.{ReadyToRun}
-use Rattle.job_text.proofs.PutLaws.{whole, counts, stored-as}
+use Rattle.job_report.specs.Lines.{refusedLine, writeLines, rowLines}
+use Rattle.job_report.specs.Report.{lastLines, runLines, jobLines, reportOf, stepLines, Reports}
+use Rattle.job_report.specs.JobScript.{verdictOf, jobRun}
+use Rattle.job_output.specs.Inside.{pairLines, RunsScript, ReadyToRun, RanJob}
+use Rattle.job_text.proofs.PutLaws.{then, whole, counts, stored-as}
 use Rattle.job_report.proofs.Lengths.{refused-length, job-length}
 use Rattle.job_report.proofs.JobRuns.{follows-steps, tells-steps}
+use Rattle.job_output.proofs.LineLaws.{pairs-writes, fault-lines, pass-lines}
+use Rattle.job_output.proofs.ScriptLaws.{part-length, bounds-room, lent-room, lent-verdict, lent-run}
+use Rattle.job_output.proofs.ScriptLaws.{never-refused, run-ends, entries-lie, entries-few, ran}
 use borrow.Author.Needs.{needs}
 use Rattle.job_output.proofs.reports.report.Statement.{statement}
 use Rattle.job_output.proofs.reports.report.Tie as tie
@@ -53,23 +62,192 @@ returns c =
     (omega (arith, refused-length (read .result .number) (read .result .at))) (c .put-refused .ensures .1) (c .put-refused .ensures .0)
     (λ z. absurd (faulty .if1 .taken (ap (λ (r : JobRead). r .number) (read .ensures .answered) ∙ z)))
 
--- a job without fault
-ready-at : (c : tie.Else1) → ReadyToRun (c .before .read-job .result .job)
-ready-at c = let read = c .before .read-job in record { sound = read .ensures .sound; started = read .ensures .started (c .if1 .left) }
+-- ---- a job without fault
 
-put-job-requires : tie.Need-put-job-requires
-put-job-requires c κs = ready-at (c .before .before)
+module _ (c : tie.Else1) where
+  abbrev entered : tie.Start
+  entered = c .before .before .before
+
+  abbrev bytes : List ℕ
+  bytes = now (entered .args .job)
+
+  abbrev out : List ℕ
+  out = now (entered .args .out)
+
+  abbrev job : Job
+  job = c .before .read-job .result .job
+
+  ready : ReadyToRun job
+  ready = let read = c .before .read-job in record { sound = read .ensures .sound; started = read .ensures .started (c .if1 .left) }
+
+  job-reports : {r : ℕ} {new : List ℕ} → length out ≡ 65536 → Stored out 0 (jobLines job) r new → Reports bytes out new r
+  job-reports size h =
+      let read = c .before .read-job in
+      reports bytes out (job-is bytes (read .result) (read .ensures .answered) (c .if1 .left)) (job-length job (ready .sound) (ready .started)) size h
+      (λ _.
+      subst (λ (r : JobRead). runLines (r .job) ≡ stepLines (r .job)) (read .ensures .answered)
+      (follows-steps job (ready .sound) (ready .started)))
+
+-- ---- its audit, from where its code was lent to that
+
+abbrev clear : tie.After-sequencer-of → tie.Else1
+clear c = c .before .before
+
+abbrev apart : tie.After-audit-code-arg6 → tie.After-sequencer-of
+apart c =
+    let third = c .before .before .before in
+    let first = third .before .before in
+    first .before .before
+
+audit-code-requires : tie.Need-audit-code-requires
+audit-code-requires c κs =
+    let s = apart c in
+    let e = clear s in
+    let size : length (job e .bounds) ≡ 128 = search (needs, e .before .read-job .ok) in
+    (lent-room (job e) (s .sequencer-of .ensures) (ready e), (bounds-room (job e) (ready e) size, ready e .sound .fit .ranges))
+
+module _ (c : tie.After-audit-code) where
+  abbrev at-sequencer : tie.After-sequencer-of
+  at-sequencer = apart (c .before)
+
+  abbrev at-clear : tie.Else1
+  at-clear = clear at-sequencer
+
+  verdict-is : c .audit-code .result ≡ verdictOf (job at-clear)
+  verdict-is = c .audit-code .ensures ∙ lent-verdict (job at-clear) (at-sequencer .sequencer-of .ensures)
+
+  family-is : at-sequencer .sequencer-of .result .family ≡ job at-clear .state .family
+  family-is = ap (λ (q : Sequencer). q .family) (at-sequencer .sequencer-of .ensures)
 
 returns-2 : tie.Need-returns-2
 returns-2 c =
-    let clear = c .before .before .before in
-    let read = clear .before .read-job in
-    let a = clear .before .before .before .args in
-    reports (now (a .job)) (now (a .out)) (job-is (now (a .job)) (read .result) (read .ensures .answered) (clear .if1 .left))
-    (job-length (read .result .job) (ready-at clear .sound) (ready-at clear .started)) (c .put-job .ensures .1) (c .put-job .ensures .0)
-    (λ _.
-    subst (λ (r : JobRead). runLines (r .job) ≡ stepLines (r .job)) (read .ensures .answered)
-    (follows-steps (read .result .job) (ready-at clear .sound) (ready-at clear .started)))
+    let refused = c .before .before in
+    let a = refused .before .before in
+    let lines = fault-lines (job (at-clear a)) (family-is a) (verdict-is a) (refused .enum-told2 .given .1) in
+    job-reports (at-clear a) (c .put-verdict .ensures .1) (stored-as _ _ lines (c .put-verdict .ensures .0))
+
+-- ---- its run, where it passed
+
+lent : length (replicate {A = ℕ} 340 0) ≡ 340
+lent = length-replicate {A = ℕ} 340 0
+
+abbrev passed : tie.After-entries → tie.After-enum-told
+passed c =
+    let eighth = c .before .before .before in
+    let fifth = eighth .before .before .before in
+    let second = fifth .before .before .before in
+    second .before .before .before
+
+abbrev audited : tie.After-entries → tie.After-audit-code
+audited c = passed c .before .before
+
+run-code-requires : tie.Need-run-code-requires
+run-code-requires c κs =
+    let a = audited c in
+    let e = at-clear a in
+    (lent-room (job e) (at-sequencer a .sequencer-of .ensures) (ready e), ready e .sound .within)
+
+module _ (r : tie.After-run-code) where
+  abbrev at-run : tie.Else1
+  at-run = at-clear (audited (r .before))
+
+  abbrev new : List ℕ
+  new = r .run-code .last .1 .1 .1 .1 .1 .1 .1 .0
+
+  runs : RunsScript (job at-run .state) (logIn (job at-run)) (replicate 340 0) new (r .run-code .result)
+  runs = lent-run (job at-run) (at-sequencer (audited (r .before)) .sequencer-of .ensures) (r .run-code .ensures)
+
+returns-3 : tie.Need-returns-3
+returns-3 c =
+    let r = c .before .before .before in
+    never-refused (sym (c .enum-told3 .given .1) ∙ run-ends (job (at-run r)) (ready (at-run r)) _ _ _ (runs r) lent)
+
+module _ (c : tie.After-answer) where
+  abbrev ran-at : tie.After-run-code
+  ran-at = c .before .before .before
+
+  abbrev last : Progress
+  last = c .answer .given .0 .0
+
+  lies : 2 * last .writes ≤ length (new ran-at)
+  lies = entries-lie (job (at-run ran-at)) (ready (at-run ran-at)) _ _ _ (runs ran-at) lent last (c .answer .given .1)
+
+  few : last .writes ≤ 170
+  few = entries-few (job (at-run ran-at)) (ready (at-run ran-at)) _ _ _ (runs ran-at) lent last (c .answer .given .1)
+
+  left : RanJob (job (at-run ran-at)) last (take (2 * last .writes) (new ran-at))
+  left = ran (job (at-run ran-at)) (ready (at-run ran-at)) _ _ _ (runs ran-at) lent last (c .answer .given .1)
+
+-- ---- the lines of a passed script
+
+abbrev answered : tie.After-put-verdict2 → tie.After-answer
+answered c = c .before .before .before
+
+mul-used : tie.Need-mul-used
+mul-used c = omega (arith, few (answered (c .before)))
+
+array-share-prefix-entries : tie.Need-array-share-prefix-entries
+array-share-prefix-entries c = lies (answered (c .before .before))
+
+slice-aggregate-put-writes : tie.Need-slice-aggregate-put-writes
+slice-aggregate-put-writes c = part-length _ _ (lies (answered (c .before .before .before)))
+
+abbrev verdict-put : tie.After-put-writes → tie.After-put-verdict2
+verdict-put c = let used = c .before .before .before in used .before
+
+put-known-requires : tie.Need-put-known-requires
+put-known-requires c κs =
+    let column = c .before .before in
+    let r = ran-at (answered (verdict-put (column .before .before))) in
+    ready (at-run r) .sound .within .1
+
+returns-4 : tie.Need-returns-4
+unfolding runLines
+returns-4 c =
+    let known = c .before .before .before in
+    let column = known .before .before .before in
+    let written = column .before .before in
+    let first = verdict-put written in
+    let k = answered first in
+    let r = ran-at k in
+    let told = passed (r .before) in
+    let a = told .before .before in
+    let e = at-clear a in
+    let j = job e in
+    let d = first .put-verdict2 .last .0 in
+    let at = first .put-verdict2 .result in
+    let writes = writeLines (jobRun j .writes) in
+    let pairs = ap pairLines (left k .wrote) ∙ pairs-writes (jobRun j .writes) in
+    let run = then d at (writes ++ rowLines 0 (knownOf j)) (lastLines (j .state) (progressOf (jobRun j)))
+    (then d at writes (rowLines 0 (knownOf j)) (stored-as _ _ pairs (written .put-writes .ensures)) (known .put-known .ensures))
+    (stored-as _ _ (ap (lastLines (j .state)) (left k .came)) (c .put-last .ensures)) in
+    job-reports e (first .put-verdict2 .ensures .1)
+    (stored-as _ _ (pass-lines j (family-is a) (verdict-is a) (told .enum-told .given .1))
+    (then (out e) 0 _ (runLines j) (first .put-verdict2 .ensures .0) run))
 
 pub report-spec : {M : Type 1} → statement M
-report-spec = tie.close (tie.spec (λ c κs. search needs) (λ c κs. search needs) returns put-job-requires returns-2)
+report-spec =
+    tie.close
+    (tie.spec
+    (λ c κs. search needs)
+    (λ c κs. search needs)
+    returns
+    (λ c κs. search needs)
+    audit-code-requires
+    (λ c. search needs)
+    (λ c. search needs)
+    (λ c κs. search needs)
+    returns-2
+    (λ c. search needs)
+    run-code-requires
+    (λ c. search needs)
+    (λ c. search needs)
+    returns-3
+    (λ c κs. search needs)
+    mul-used
+    array-share-prefix-entries
+    slice-aggregate-put-writes
+    (λ c κs. search needs)
+    put-known-requires
+    (λ c κs. search needs)
+    returns-4)

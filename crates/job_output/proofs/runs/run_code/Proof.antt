@@ -1,4 +1,5 @@
 -- Assumes nothing.
+use denote.Ref.{now}
 use native.Mathlib.Omega.{arith}
 use Rattle.job_output.proofs.ScriptLaws.{part-length}
 use borrow.Author.Needs.{needs}
@@ -7,7 +8,7 @@ use Rattle.job_output.proofs.runs.run_code.Tie as tie
 
 -- where the size was asked for, and where the slices came in
 abbrev sized : tie.After-run-arg → tie.After-code-size
-sized c = c .before
+sized c = c .before .before .before
 
 abbrev entered : tie.After-run-arg → tie.Start
 entered c =
@@ -34,12 +35,16 @@ returns : tie.Need-returns
 returns c =
     let run = c .before .before in
     let known = run .before .before .before in
-    simp (sized (known .before .before .before) .code-size .ensures) at (run .run .ensures)
+    let parts = known .before .before .before in
+    let a = entered parts .args in
+    let slot = parts .before .before .executing .ensures (now (a .code)) (now (a .marks)) in
+    simp (sized parts .code-size .ensures, slot) at (run .run .ensures)
 
 pub run-code-spec : {M : Type 1} → statement M
 run-code-spec =
     tie.close
     (tie.spec
+    (λ c κs. search needs)
     (λ c κs. search needs)
     slice-aggregate-run
     slice-aggregate-run-2
