@@ -15,8 +15,15 @@ Inv-loop marks at n i₀ left₀ i left = allMarked left marks i ≡ allMarked l
 abbrev μ-loop : tie.MeasureT-loop
 μ-loop marks at n i₀ left₀ i left = left
 
+-- from a byte's mark up to the loop, and from there up to the start
+abbrev looped : tie.Else1 Inv-loop μ-loop → tie.At-loop Inv-loop μ-loop
+looped c = c .before .before .before
+
+abbrev start : tie.At-loop Inv-loop μ-loop → tie.Start Inv-loop μ-loop
+start l = l .before .before
+
 -- the byte that was looked at has its mark
-marked : (c : tie.Else1 Inv-loop μ-loop) → getD (now (c .before .before .before .before .before .args .marks)) (c .before .before .before .loop .i) 0 ≡ 1
+marked : (c : tie.Else1 Inv-loop μ-loop) → let l = looped c in getD (now (start l .args .marks)) (l .loop .i) 0 ≡ 1
 marked c = sym (c .before .mark .ensures) ∙ c .if1 .left
 
 returns : tie.Need-returns Inv-loop μ-loop
@@ -26,12 +33,12 @@ returns c =
 
 add-i : tie.Need-add-i Inv-loop μ-loop
 add-i c =
-    let a = c .before .before .before .before .before in
-    omega (arith, marked-within (now (a .args .marks)) (c .before .before .before .loop .i) (marked c), a .good .0)
+    let l = looped c in
+    omega (arith, marked-within (now (start l .args .marks)) (l .loop .i) (marked c), start l .good .0)
 
 loop-again : tie.Need-loop-again Inv-loop μ-loop
 loop-again c =
-    let l = c .before .before .before in
+    let l = looped c in
     marked-next _ (l .loop .i) (l .loop .left) (omega arith) (marked c) ∙ l .loop .inv
 
 returns-2 : tie.Need-returns-2 Inv-loop μ-loop

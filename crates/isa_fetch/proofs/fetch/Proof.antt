@@ -23,51 +23,61 @@ refused : {family : ℕ} {code marks : List ℕ} {at : ℕ} (why : Unreadable) �
     → Fetches family code marks at (Decoded.Refused why)
 refused {family} {code} {marks} {at} why e = record { answered = e; numbered = ap decodedNumber e ∙ fetch-numbered family code marks at; inside = tt }
 
+-- from the RAM's length up to the start
+abbrev start : tie.After-ram-length → tie.Start
+start c = c .before .before .before
+
+-- from where the place has its mark up to where it lies in the RAM
+abbrev in-ram : tie.Else2 → tie.Else1
+in-ram c = c .before .before
+
 returns : tie.Need-returns
 unfolding fetchOf
 returns c =
-    let a = c .before .before .before .before .args in
+    let a = start (c .before) .args in
     let r = codeRam (a .family) (now (a .code)) in
     refused Unreadable.Empty (simp (le-ltb (a .place .0) (length r) (omega (arith, c .before .ram-length .ensures))))
 
 -- past the first test the place lies in the RAM
-before-end : (c : tie.Else1) → c .before .before .before .before .args .place .0 < length (codeRam (c .before .before .before .before .args .family) (now
-    (c .before .before .before .before .args .code)))
+before-end : (c : tie.Else1) → let a = start (c .before) .args in a .place .0 < length (codeRam (a .family) (now (a .code)))
 before-end c = omega (arith, c .before .ram-length .ensures)
 
 returns-2 : tie.Need-returns-2
 unfolding fetchOf
 returns-2 c =
-    let a = c .before .before .before .before .before .before .args in
+    let lies = c .before .before in
+    let a = start (lies .before) .args in
     let r = codeRam (a .family) (now (a .code)) in
     refused Unreadable.NotUploaded
     (simp (
-      lt-ltb (a .place .0) (length r) (before-end (c .before .before)),
+      lt-ltb (a .place .0) (length r) (before-end lies),
       ne-eqb (getD (now (a .marks)) (a .place .0) 0) 1 (λ e. c .if2 .taken (c .before .mark .ensures ∙ e)),
     ))
 
 part-decode-end : tie.Need-part-decode-end
 part-decode-end c =
-    let a = c .before .before .before .before .before .before .args in
-    omega (arith, length-take (codeSize (a .family)) (now (a .code)), c .before .before .before .ram-length .ensures)
+    let sized = in-ram c .before in
+    let a = start sized .args in
+    omega (arith, length-take (codeSize (a .family)) (now (a .code)), sized .ram-length .ensures)
 
 returns-3 : tie.Need-returns-3
 unfolding fetchOf
 returns-3 c =
     let k = c .before .before .before in
-    let a = k .before .before .before .before .before .before .args in
+    let sized = in-ram k .before in
+    let a = start sized .args in
     let r = codeRam (a .family) (now (a .code)) in
-    let e : take (k .before .before .before .ram-length .result - a .place .0) (drop (a .place .0) (now (a .code))) ≡ drop (a .place .0) r =
-    ap (λ (n : ℕ). take (n - a .place .0) (drop (a .place .0) (now (a .code)))) (k .before .before .before .ram-length .ensures)
+    let e : take (sized .ram-length .result - a .place .0) (drop (a .place .0) (now (a .code))) ≡ drop (a .place .0) r =
+    ap (λ (n : ℕ). take (n - a .place .0) (drop (a .place .0) (now (a .code)))) (sized .ram-length .ensures)
     ∙ part (codeSize (a .family)) (a .place .0) (now (a .code)) in
     let d = c .before .decode in
     let found : d .result ≡ decodeOf (a .family) (drop (a .place .0) r) = d .ensures .answered ∙ ap (decodeOf (a .family)) e in
     let spelled : OneSpelling (a .family) (drop (a .place .0) r) (d .result) = rw e at (d .ensures .spelled-so) in
-    let inside = inside-of (a .family) (now (a .code)) (now (a .marks)) (a .place .0) (d .result) (omega (arith, before-end (k .before .before))) spelled in
+    let inside = inside-of (a .family) (now (a .code)) (now (a .marks)) (a .place .0) (d .result) (omega (arith, before-end (in-ram k))) spelled in
     let answer : c .check-marks .result ≡ checkMarks (now (a .marks)) (a .place .0) (d .result) = c .check-marks .ensures in
     let answered : c .check-marks .result ≡ fetchOf (a .family) (now (a .code)) (now (a .marks)) (a .place .0) =
     answer ∙ simp (
-      lt-ltb (a .place .0) (length r) (before-end (k .before .before)),
+      lt-ltb (a .place .0) (length r) (before-end (in-ram k)),
       eq-eqb (getD (now (a .marks)) (a .place .0) 0) 1 (sym (k .before .mark .ensures) ∙ k .if2 .left),
       found,
     ) in
