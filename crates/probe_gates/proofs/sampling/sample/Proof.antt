@@ -7,10 +7,11 @@ use Rattle.probe_gates.proofs.sampling.sample.Tie as tie
 
 returns : tie.Need-returns
 returns c =
-    let test = c .before .before .before .before in
+    let passed = c .before .before .before in
+    let test = passed .before in
     samples-of (test .before .args .gate) (test .before .args .calibration) (test .before .args .raw) _
     (simp (
-      sym (test .usable .ensures .answer) ∙ c .before .before .before .if1 .taken,
+      sym (test .usable .ensures .answer) ∙ passed .if1 .taken,
       c .read .ensures .answer,
       c .before .volts .ensures .answer,
       c .before .before .float-of .ensures .answer,

@@ -14,21 +14,25 @@ finite t h = sym (t .both-finite .ensures) ∙ h
 
 returns : tie.Need-returns
 returns c =
-    let test = c .before .before .before .before .before in
+    let told = c .before .before in
+    let passed = told .before .before in
+    let test = passed .before in
     admits (test .before .args .gate) (test .before .args .calibration) _
-    (simp (finite test (c .before .before .before .before .if1 .taken), c .before .before .gate .given .1) (c .levels-fit .ensures))
+    (simp (finite test (passed .if1 .taken), told .gate .given .1) (c .levels-fit .ensures))
 
 returns-2 : tie.Need-returns-2
 returns-2 c =
-    let test = c .before .before .before .before .before in
+    let told = c .before .before in
+    let passed = told .before .before in
+    let test = passed .before in
     admits (test .before .args .gate) (test .before .args .calibration) _
-    (simp (finite test (c .before .before .before .before .if1 .taken), c .before .before .gate2 .given .1) (c .levels-fit2 .ensures))
+    (simp (finite test (passed .if1 .taken), told .gate2 .given .1) (c .levels-fit2 .ensures))
 
 returns-3 : tie.Need-returns-3
 returns-3 c =
-    let test = c .before .before .before in
-    admits (test .before .args .gate) (test .before .args .calibration) _
-    (simp (finite test (c .before .before .if1 .taken), c .enum-told .given .1))
+    let passed = c .before .before in
+    let test = passed .before in
+    admits (test .before .args .gate) (test .before .args .calibration) _ (simp (finite test (passed .if1 .taken), c .enum-told .given .1))
 
 returns-4 : tie.Need-returns-4
 returns-4 c =

@@ -7,21 +7,25 @@ use Rattle.probe_gates.proofs.gate.Gate.read.Tie as tie
 
 returns : tie.Need-returns
 returns c =
-    let test = c .before .before .before .before .before in
+    let told = c .before .before in
+    let passed = told .before .before in
+    let test = passed .before in
     reads-of (test .before .args .self) (test .before .args .volts) _
-    (simp (sym (test .is-finite .ensures) ∙ c .before .before .before .before .if1 .taken, c .before .before .self .given .1) (c .at-levels .ensures))
+    (simp (sym (test .is-finite .ensures) ∙ passed .if1 .taken, told .self .given .1) (c .at-levels .ensures))
 
 returns-2 : tie.Need-returns-2
 returns-2 c =
-    let test = c .before .before .before .before .before in
+    let told = c .before .before in
+    let passed = told .before .before in
+    let test = passed .before in
     reads-of (test .before .args .self) (test .before .args .volts) _
-    (simp (sym (test .is-finite .ensures) ∙ c .before .before .before .before .if1 .taken, c .before .before .self2 .given .1) (c .at-levels2 .ensures))
+    (simp (sym (test .is-finite .ensures) ∙ passed .if1 .taken, told .self2 .given .1) (c .at-levels2 .ensures))
 
 returns-3 : tie.Need-returns-3
 returns-3 c =
-    let test = c .before .before .before in
-    reads-of (test .before .args .self) (test .before .args .volts) _
-    (simp (sym (test .is-finite .ensures) ∙ c .before .before .if1 .taken, c .enum-told .given .1))
+    let passed = c .before .before in
+    let test = passed .before in
+    reads-of (test .before .args .self) (test .before .args .volts) _ (simp (sym (test .is-finite .ensures) ∙ passed .if1 .taken, c .enum-told .given .1))
 
 returns-4 : tie.Need-returns-4
 returns-4 c =
