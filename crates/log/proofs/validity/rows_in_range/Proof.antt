@@ -16,15 +16,19 @@ Inv-loop clocks row₀ row = rowsInRange (drop row clocks) ≡ rowsInRange clock
 abbrev μ-loop : tie.MeasureT-loop
 μ-loop clocks row₀ row = length clocks - row
 
+-- from a row's test up to the loop
+abbrev looped : tie.After-clocks-in-range Inv-loop μ-loop → tie.At-loop Inv-loop μ-loop
+looped c = c .before .before .before
+
 returns : tie.Need-returns Inv-loop μ-loop
 returns c =
-    let l = c .before .before .before .before in
+    let l = looped (c .before) in
     range-not (l .before .before .args .clocks .now) (l .loop .row) (omega arith) (sym (c .before .clocks-in-range .ensures) ∙ not-true _ (c .if1 .taken))
     ∙ l .loop .inv
 
 loop-again : tie.Need-loop-again Inv-loop μ-loop
 loop-again c =
-    let l = c .before .before .before .before in
+    let l = looped (c .before) in
     range-next (l .before .before .args .clocks .now) (l .loop .row) (omega arith) (sym (c .before .clocks-in-range .ensures) ∙ not-false _ (c .if1 .left))
     ∙ l .loop .inv
 
