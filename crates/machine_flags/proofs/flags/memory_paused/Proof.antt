@@ -9,17 +9,23 @@ use Rattle.machine_flags.proofs.flags.memory_paused.Tie as tie
 
 returns : tie.Need-returns
 unfolding overrides1
-returns c = rw (
-  sym (c .before .before .before .before .pauses-memory .ensures) ∙ c .before .before .before .if1 .taken,
-  eq-eqb (c .before .before .before .before .before .args .flags .enables / 2 ^ 16 % 2) 1 (c .before .if2 .taken),
-)
+returns c =
+    let pauses = c .before .before .before in
+    let test = pauses .before in
+    rw (
+      sym (test .pauses-memory .ensures) ∙ pauses .if1 .taken,
+      eq-eqb (test .before .args .flags .enables / 2 ^ 16 % 2) 1 (c .before .if2 .taken),
+    )
 
 returns-2 : tie.Need-returns-2
 unfolding overrides1
-returns-2 c = rw (
-  sym (c .before .before .before .pauses-memory .ensures) ∙ c .before .before .if1 .taken,
-  ne-eqb (c .before .before .before .before .args .flags .enables / 2 ^ 16 % 2) 1 (c .if2 .left),
-)
+returns-2 c =
+    let pauses = c .before .before in
+    let test = pauses .before in
+    rw (
+      sym (test .pauses-memory .ensures) ∙ pauses .if1 .taken,
+      ne-eqb (test .before .args .flags .enables / 2 ^ 16 % 2) 1 (c .if2 .left),
+    )
 
 returns-3 : tie.Need-returns-3
 unfolding overrides1
