@@ -15,7 +15,10 @@ use Rattle.script.proofs.input.script_fits.Tie as tie
 -- the family is known
 module _ (c : tie.Else1) where
   abbrev script : Script
-  script = let a = c .before .before .before .before .args in scriptOf (a .family) (now (a .code)) (now (a .marks)) (a .entry .0)
+  script =
+      let asked = c .before in
+      let a = asked .before .before .before .args in
+      scriptOf (a .family) (now (a .code)) (now (a .marks)) (a .entry .0)
 
   known : knownFamily (script .family) ≡ true
   known = sym (c .before .known-family .ensures) ∙ not-false _ (c .if1 .left)
@@ -54,7 +57,8 @@ returns-3 c =
 returns-4 : tie.Need-returns-4
 unfolding scriptFits
 returns-4 c =
-    let e = c .before .before .before .before in
+    let sized = c .before .before in
+    let e = sized .before .before in
     let unplain = sym (c .before .marks-plain .ensures) ∙ not-true _ (c .if4 .taken) in
     simp (known (e .before .before), eq-eqb (length (x e .code)) (codeSize (x e .family)) (code-size e), unplain, and-false)
 

@@ -16,6 +16,10 @@ Inv-loop ranges wanted i₀ i = listedIn (drop i ranges) wanted ≡ listedIn ran
 abbrev μ-loop : tie.MeasureT-loop
 μ-loop ranges wanted i₀ i = length ranges - i
 
+-- from a pair's test up to the loop
+abbrev looped : tie.After-holds Inv-loop μ-loop → tie.At-loop Inv-loop μ-loop
+looped c = let pair = c .before .before .before in pair .before .before
+
 returns : tie.Need-returns Inv-loop μ-loop
 returns c =
     let l = c .before .before in
@@ -24,13 +28,13 @@ returns c =
 
 returns-2 : tie.Need-returns-2 Inv-loop μ-loop
 returns-2 c =
-    let l = c .before .before .before .before .before .before in
+    let l = looped (c .before) in
     let a = l .before .before .args in
     listed-here (now (a .ranges)) (l .loop .i) (a .address .0) (omega arith) (sym (c .before .holds .ensures) ∙ c .if2 .taken) ∙ l .loop .inv
 
 loop-again : tie.Need-loop-again Inv-loop μ-loop
 loop-again c =
-    let l = c .before .before .before .before .before .before in
+    let l = looped (c .before) in
     let a = l .before .before .args in
     listed-next (now (a .ranges)) (l .loop .i) (a .address .0) (omega arith) (sym (c .before .holds .ensures) ∙ c .if2 .left) ∙ l .loop .inv
 

@@ -20,15 +20,19 @@ abbrev μ-loop : tie.MeasureT-loop
 returns : tie.Need-returns Inv-loop μ-loop
 returns c = paired-odd (now (c .before .before .args .ranges)) (c .if1 .taken)
 
+-- from the loop up to the start
+abbrev start : tie.At-loop Inv-loop μ-loop → tie.Start Inv-loop μ-loop
+start l = l .before .before .before
+
 -- a first that is there has its last
-pair-there : (c : tie.In-loop Inv-loop μ-loop) → c .before .loop .i + 1 < length (now (c .before .before .before .before .args .ranges))
+pair-there : (c : tie.In-loop Inv-loop μ-loop) → let l = c .before in l .loop .i + 1 < length (now (start l .args .ranges))
 pair-there c = let l = c .before in omega (arith, c .loop-test .taken, l .loop .inv .1, l .before .if1 .left)
 
 loop-again : tie.Need-loop-again Inv-loop μ-loop
 loop-again c =
     let loops = c .before .before .before in
     let l = loops .before in
-    let ranges = now (l .before .before .before .args .ranges) in
+    let ranges = now (start l .args .ranges) in
     let all = ap (λ (crossed : Bool). not crossed && rangesPaired (drop (l .loop .i + 2) ranges)) (c .above .ensures)
     ∙ paired-next ranges (l .loop .i) (l .loop .crossed) (pair-there loops)
     ∙ l .loop .inv .0 in
@@ -37,7 +41,7 @@ loop-again c =
 returns-2 : tie.Need-returns-2 Inv-loop μ-loop
 returns-2 c =
     let l = c .before in
-    paired-end (now (l .before .before .before .args .ranges)) (l .loop .i) (l .loop .crossed) (omega arith) ∙ l .loop .inv .0
+    paired-end (now (start l .args .ranges)) (l .loop .i) (l .loop .crossed) (omega arith) ∙ l .loop .inv .0
 
 pub ranges-paired-spec : {M : Type 1} → statement M
 ranges-paired-spec =
