@@ -4,14 +4,17 @@ use Rattle.machine_slot.proofs.slot_steps.perform.Statement.{statement}
 use Rattle.machine_slot.proofs.slot_steps.perform.Tie as tie
 
 returns : tie.Need-returns
-returns c = simp (
-  c .before .before .before .before .before .mode-after .ensures,
-  c .before .before .before .before .ip-after .ensures,
-  c .before .before .before .addr-after .ensures,
-  c .before .before .data-after .ensures,
-  c .before .flags-after .ensures,
-  c .effect-of .ensures,
-)
+returns c =
+    let addressed = c .before .before .before in
+    let placed = addressed .before in
+    simp (
+      placed .before .mode-after .ensures,
+      placed .ip-after .ensures,
+      addressed .addr-after .ensures,
+      c .before .before .data-after .ensures,
+      c .before .flags-after .ensures,
+      c .effect-of .ensures,
+    )
 
 pub perform-spec : {M : Type 1} → statement M
 perform-spec =

@@ -6,12 +6,9 @@ use Rattle.machine_slot.proofs.slot_steps.unfetched.Statement.{statemen
 use Rattle.machine_slot.proofs.slot_steps.unfetched.Tie as tie
 
 returns : tie.Need-returns
-returns c = simp (
-  c .before .before .before .before .enum-told .given .1,
-  c .unmoved .ensures,
-  c .before .hung-if .ensures,
-  c .before .before .unknown-hangs .ensures,
-)
+returns c =
+    let hangs = c .before .before in
+    simp (hangs .before .before .enum-told .given .1, c .unmoved .ensures, c .before .hung-if .ensures, hangs .unknown-hangs .ensures)
 
 returns-2 : tie.Need-returns-2
 returns-2 c =
