@@ -32,10 +32,15 @@ loop-holds c =
     let a = c .before .before .args in
     (search needs, paste-zero (a .out .now) (a .at) (a .text .now), refl)
 
+-- from the loop up to the start
+abbrev start : tie.At-loop Inv-loop μ-loop → tie.Start Inv-loop μ-loop
+start l = l .before .before .before
+
 loop-again : tie.Need-loop-again Inv-loop μ-loop
 loop-again c =
-    let l = c .before .before .loop in
-    let a = c .before .before .before .before .before .args in
+    let looped = c .before .before in
+    let l = looped .loop in
+    let a = start looped .args in
     let byte = getD (a .text .now) (l .i) 0 in (
       search needs,
       ap (λ (b : List ℕ). set b (a .at + l .i) byte) (l .inv .1)
@@ -47,7 +52,7 @@ loop-again c =
 returns-3 : tie.Need-returns-3 Inv-loop μ-loop
 returns-3 c =
     let l = c .before .loop in
-    let a = c .before .before .before .before .args in
+    let a = start (c .before) .args in
     let done : l .i ≡ length (a .text .now) = omega arith in
     let room : a .at + length (a .text .now) ≤ length (a .out .now) = omega arith in (
       sym (after-room (a .out .now) (a .at) (a .text .now) room),

@@ -63,9 +63,11 @@ part-put-bytes-end c =
 returns : tie.Need-returns Inv-loop μ-loop
 returns c =
     let call = c .put-bytes in
-    let a = c .before .before .before .before .before .before .args in
+    let lent = c .before .before .before in
+    let done = lent .before in
+    let a = done .before .before .args in
     record {
-      puts = puts-as (a .out .now) (a .at) _ (decimal (a .n)) (call .result) (call .last .0) (whole (c .before .before .before .before)) (call .ensures);
+      puts = puts-as (a .out .now) (a .at) _ (decimal (a .n)) (call .result) (call .last .0) (whole done) (call .ensures);
       digits = digits-of (a .n);
     }
 

@@ -35,8 +35,9 @@ loop-again c =
 
 returns : tie.Need-returns Inv-loop μ-loop
 returns c =
-    let l = c .before .before .before .before .loop in
-    let a = c .before .before .before .before .before .args in
+    let done = c .before .before .before in
+    let l = done .before .loop in
+    let a = done .before .before .args in
     let call = c .put-bytes in
     let word : l .text ≡ hexWord (a .n) = end (l .text) (l .first) (l .rest) (omega arith) ∙ l .inv .2 in
     record {
