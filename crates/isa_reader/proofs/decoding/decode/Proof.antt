@@ -31,19 +31,25 @@ returns-2 : tie.Need-returns-2
 returns-2 c = spelled-so (c .before .before .before) (no-byte _ _ (sym (c .before .before .known-family .ensures)
     ∙ not-false _ (c .before .if1 .left)) (omega arith))
 
+-- from the opcode up to where the family is known
+abbrev known : tie.After-opcode-at → tie.Else1
+known c = c .before .before .before
+
 returns-3 : tie.Need-returns-3
 returns-3 c =
-    let k = c .before .before .before .before .before .before in
+    let opcode = c .before .before .before in
+    let k = known opcode in
     spelled-so (k .before .before)
-    (c .read-as .ensures ∙ whole _ _ _ (sym (k .before .known-family .ensures) ∙ not-false _ (k .if1 .left)) (omega arith) (c .before .before .before
-    .opcode-at .ensures) (omega arith))
+    (c .read-as .ensures
+    ∙ whole _ _ _ (sym (k .before .known-family .ensures) ∙ not-false _ (k .if1 .left)) (omega arith) (opcode .opcode-at .ensures) (omega arith))
 
 returns-4 : tie.Need-returns-4
 returns-4 c =
-    let k = c .before .before .before .before .before in
+    let opcode = c .before .before in
+    let k = known opcode in
     spelled-so (k .before .before)
-    (short _ _ (c .before .before .opcode-at .result) (sym (k .before .known-family .ensures) ∙ not-false _ (k .if1 .left)) (omega arith) (c .before .before
-    .opcode-at .ensures) (omega arith))
+    (short _ _ (opcode .opcode-at .result) (sym (k .before .known-family .ensures) ∙ not-false _ (k .if1 .left)) (omega arith) (opcode .opcode-at .ensures)
+    (omega arith))
 
 pub decode-spec : {M : Type 1} → statement M
 decode-spec =

@@ -5,7 +5,9 @@ use Rattle.isa_reader.proofs.operands.operand16.Statement.{statement}
 use Rattle.isa_reader.proofs.operands.operand16.Tie as tie
 
 returns : tie.Need-returns
-returns c = simp (c .word16 .ensures, c .before .before .byte .ensures, c .before .byte2 .ensures) (two (c .before .before .before .before .args .bytes .now))
+returns c =
+    let first = c .before .before in
+    simp (c .word16 .ensures, first .byte .ensures, c .before .byte2 .ensures) (two (first .before .before .args .bytes .now))
 
 pub operand16-spec : {M : Type 1} → statement M
 operand16-spec = tie.close (tie.spec (λ c κs. search needs) (λ c κs. search needs) (λ c κs. search needs) returns)
