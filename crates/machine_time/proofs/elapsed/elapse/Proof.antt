@@ -15,7 +15,8 @@ returns-2 c = simp (c .before .before .before .action2 .given .1, c .after-ewait
 
 returns-3 : tie.Need-returns-3
 returns-3 c =
-    let a = c .before .before .before .before .before .args in
+    let columns = c .before .before in
+    let a = columns .before .before .before .args in
     c .at-once .ensures ∙ takes-no-time (a .action) (logOf (now (a .clocks)) (now (a .known)) (now (a .values))) (a .at) (c .before .match .keys3)
 
 pub elapse-spec : {M : Type 1} → statement M
