@@ -8,12 +8,12 @@ returns : tie.Need-returns
 returns c = simp (c .before .enum-told4 .given .1) (c .after-trigger .ensures _ _)
 
 -- up to where the register is known to be a code register
-abbrev code-register : tie.After-upload → tie.After-register
-code-register c = c .before .before .before .before
+abbrev code-register : tie.After-upload-arg2 → tie.After-register
+code-register c = c .before .before .before
 
 upload-requires : tie.Need-upload-requires
 upload-requires c κs =
-    let r = c .before .before .before in
+    let r = code-register c in
     rw (r .register .given .1) at (r .before .before .pre)
 
 returns-2 : tie.Need-returns-2
@@ -36,7 +36,7 @@ returns-7 c = simp (c .before .enum-told7 .given .1, c .entry-bits .ensures)
 
 returns-8 : tie.Need-returns-8
 unfolding afterUpload
-returns-8 c = simp (code-register c .register .given .1, c .upload .ensures .0, c .upload .ensures .1)
+returns-8 c = simp (code-register (c .before) .register .given .1, c .upload .ensures .0, c .upload .ensures .1)
 
 returns-9 : tie.Need-returns-9
 returns-9 c = simp (c .enum-told8 .given .1)

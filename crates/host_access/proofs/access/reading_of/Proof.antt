@@ -7,7 +7,9 @@ returns : tie.Need-returns
 returns c = simp (c .enum-told4 .given .1)
 
 code-word-requires : tie.Need-code-word-requires
-code-word-requires c κs = rw (c .before .register .given .1) at (c .before .before .before .before .pre)
+code-word-requires c κs =
+    let told = c .before in
+    rw (told .register .given .1) at (told .before .before .before .pre)
 
 returns-2 : tie.Need-returns-2
 returns-2 c = simp (c .enum-told8 .given .1)

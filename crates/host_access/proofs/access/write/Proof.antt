@@ -20,9 +20,12 @@ found o = o .before .before .before
 abbrev start : tie.After-write-outcome → tie.Start
 start o = found o .before .before .before
 
--- up to that outcome
+-- from a write that is done up to where the outcome was told, and to that outcome
+abbrev told : tie.After-after-write-arg2 → tie.After-enum-told
+told c = c .before .before
+
 abbrev tested : tie.After-after-write-arg2 → tie.After-write-outcome
-tested c = c .before .before .before .before
+tested c = told c .before .before
 
 abbrev state : (o : tie.After-write-outcome) → State
 state o = stateFrom (start o .args .sequencer) (now (start o .args .code)) (now (start o .args .marks))
@@ -37,8 +40,8 @@ after-write-requires c κs = rw (found (tested c) .register-at .ensures) (regist
 returns : tie.Need-returns
 returns c =
     let o = tested (c .before) in
-    let told = c .before .before .before .enum-told .given .1 in
-    in-place (state o) _ _ (write-done (state o) _ _ (found o .register-at .ensures) (outcome-is o) told (c .after-write .ensures))
+    let is-done = told (c .before) .enum-told .given .1 in
+    in-place (state o) _ _ (write-done (state o) _ _ (found o .register-at .ensures) (outcome-is o) is-done (c .after-write .ensures))
 
 returns-2 : tie.Need-returns-2
 returns-2 c =

@@ -8,27 +8,22 @@ use borrow.Author.Needs.{needs}
 use Rattle.host_access.proofs.triggers.after_trigger.Statement.{statement}
 use Rattle.host_access.proofs.triggers.after_trigger.Tie as tie
 
--- up to where the slot was named, and to where the entry point was found
-abbrev named : tie.After-triggered → tie.After-slot-named
-named c = c .before .before .before .before
-
-abbrev named-2 : tie.After-triggered2 → tie.After-slot-named
-named-2 c = c .before .before .before .before
-
 returns : tie.Need-returns
 returns c =
-    let n = named c in
+    let told = c .before .before in
+    let n = told .before .before in
     let e = n .before in
     let q = e .before .args .sequencer in
-    let is : slotNamed (q .family) (e .before .args .word) ≡ SlotName.A = sym (n .slot-named .ensures) ∙ c .before .before .enum-told .given .1 in
+    let is : slotNamed (q .family) (e .before .args .word) ≡ SlotName.A = sym (n .slot-named .ensures) ∙ told .enum-told .given .1 in
     λ code marks. simp (c .triggered .ensures, e .entry-point .ensures) (rw is at (triggered-as (stateFrom q code marks) (e .before .args .word)))
 
 returns-2 : tie.Need-returns-2
 returns-2 c =
-    let n = named-2 c in
+    let told = c .before .before in
+    let n = told .before .before in
     let e = n .before in
     let q = e .before .args .sequencer in
-    let is : slotNamed (q .family) (e .before .args .word) ≡ SlotName.B = sym (n .slot-named .ensures) ∙ c .before .before .enum-told2 .given .1 in
+    let is : slotNamed (q .family) (e .before .args .word) ≡ SlotName.B = sym (n .slot-named .ensures) ∙ told .enum-told2 .given .1 in
     λ code marks. simp (c .triggered2 .ensures, e .entry-point .ensures) (rw is at (triggered-as (stateFrom q code marks) (e .before .args .word)))
 
 pub after-trigger-spec : {M : Type 1} → statement M
