@@ -10,7 +10,10 @@ use Rattle.job_records.proofs.by_kind.read_end.Tie as tie
 
 -- from the tests of its shape up to the start
 abbrev start : tie.After-some-executes → tie.Start
-start c = c .before .before .before .before .before
+start c =
+    let shaped = c .before in
+    let lent = shaped .before .before .before in
+    lent .before
 
 returns : tie.Need-returns
 returns c =

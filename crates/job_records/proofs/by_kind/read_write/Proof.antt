@@ -50,16 +50,14 @@ word-in-requires c κs = omega (arith, whole c)
 word-in-requires-2 : tie.Need-word-in-requires-2
 word-in-requires-2 c κs = omega (arith, whole (c .before))
 
--- up to where the write was made, and to where its word was read
-abbrev written : tie.After-when2 → tie.After-write
-written c = c .before .before .before .before
-
+-- from the write up to where its word was read
 abbrev word-read : tie.After-write → tie.After-word-in2
 word-read c = c .before .before .before
 
 returns-2 : tie.Need-returns-2
 returns-2 c =
-    let w = written c in
+    let numbered = c .before .before in
+    let w = numbered .before .before in
     let r = word-read w in
     let e = r .before .before in
     let s = state (start e) in
@@ -68,7 +66,7 @@ returns-2 c =
     let address = r .before .word-in .ensures in
     let word = r .word-in2 .ensures in
     let number : c .when2 .result ≡ writeTests (outcomeNumber (w .write .result .outcome)) =
-    c .when2 .ensures ∙ simp (c .before .when .ensures, c .before .before .outcome-number .ensures) in
+    c .when2 .ensures ∙ simp (c .before .when .ensures, numbered .outcome-number .ensures) in
     record {
       tested = write-tested (rest e) s is address word made number (counts e) (fine e);
       state = write-stored (rest e) s is address word made number;

@@ -3,14 +3,11 @@ use borrow.Author.Needs.{needs}
 use Rattle.job_records.proofs.contents.counted.Statement.{statement}
 use Rattle.job_records.proofs.contents.counted.Tie as tie
 
--- up to the row of the table
-abbrev looked-up : tie.After-one-more4 → tie.After-kind-of
-looked-up c = c .before .before .before .before
-
 returns : tie.Need-returns
 returns c =
     let ranges = c .before .before in
-    simp (looked-up c .kind-of .ensures .0, ranges .before .one-more .ensures, ranges .one-more2 .ensures, c .before .one-more3 .ensures, c .one-more4 .ensures)
+    let looked-up = ranges .before .before in
+    simp (looked-up .kind-of .ensures .0, ranges .before .one-more .ensures, ranges .one-more2 .ensures, c .before .one-more3 .ensures, c .one-more4 .ensures)
 
 pub counted-spec : {M : Type 1} → statement M
 counted-spec =

@@ -51,7 +51,7 @@ abbrev μ-loop : tie.MeasureT-loop
 -- ---- where the loop stands
 
 abbrev start : tie.At-loop Inv-loop μ-loop → tie.Start Inv-loop μ-loop
-start l = l .before .before .before .before
+start l = let uncounted = l .before .before in uncounted .before .before
 
 abbrev input : tie.At-loop Inv-loop μ-loop → List ℕ
 input l = now (start l .args .bytes)
