@@ -10,9 +10,10 @@ returns c = sample-refused (c .before .if1 .taken) (c .unsampled .ensures)
 
 returns-2 : tie.Need-returns-2
 returns-2 c =
-    let volts = c .before .before .before .before in
+    let gated = c .before .before .before in
+    let volts = gated .before in
     let floats = volts .before in
-    sample-passed (floats .before .before .before .if1 .left) (c .before .before .before .gate-of .ensures)
+    sample-passed (floats .before .before .before .if1 .left) (gated .gate-of .ensures)
     (simp (floats .before .before .float-of .ensures .answer, floats .before .float-of2 .ensures .answer))
     (c .before .before .sample .ensures)
     (c .before .pattern-of .ensures .answer ∙ simp (volts .volts .ensures .answer, floats .float-of3 .ensures .answer))
