@@ -6,8 +6,9 @@ use Rattle.capi_codec.proofs.encoding.hwsq_encode.Tie as tie
 
 returns : tie.Need-returns
 returns c =
-    let named = c .before .before .before .before .before .before in
-    named-encode (named .before .before .named-by .ensures) (named .named .given .1) (c .before .before .before .encode .ensures) (c .encoded-reply .ensures)
+    let written = c .before .before .before in
+    let named = written .before .before .before in
+    named-encode (named .before .before .named-by .ensures) (named .named .given .1) (written .encode .ensures) (c .encoded-reply .ensures)
 
 returns-2 : tie.Need-returns-2
 returns-2 c =
