@@ -27,13 +27,19 @@ returns c =
 -- a slot that runs, and what it fetched
 module _ (f : tie.After-fetch) where
   abbrev runs : tie.Else1
-  runs = let flags = f .before .before .before in flags .before .before .before .before
+  runs =
+      let flags = f .before .before .before in
+      let ip = flags .before .before .before in
+      ip .before
+
+  abbrev named : tie.After-slot-of
+  named = runs .before .before
 
   abbrev entered : tie.Start
-  entered = let named = runs .before .before in named .before .before .before .before
+  entered = let columns = named .before in columns .before .before .before
 
   abbrev slot : Slot
-  slot = runs .before .before .slot-of .result
+  slot = named .slot-of .result
 
   abbrev log : Log
   log = let a = entered .args in logOf (now (a .clocks)) (now (a .known)) (now (a .values))
@@ -45,7 +51,7 @@ module _ (f : tie.After-fetch) where
   stepped : (t : SlotStep) → (let s = entered .args .state in t ≡ slotStepOf (s .family) (s .enable) slot (s .flags) log (entered .args .at) fetched)
       → (let a = entered .args in afterSlotStep (a .state) (a .name) t ≡ advanceOf (a .state) (a .name) log (a .at))
   stepped t e =
-      advance-slot-step _ _ _ _ slot (runs .before .before .slot-of .ensures) (sym (runs .before .can-run .ensures)
+      advance-slot-step _ _ _ _ slot (named .slot-of .ensures) (sym (runs .before .can-run .ensures)
       ∙ not-false _ (runs .if1 .left)) fetched refl t e
 
 returns-2 : tie.Need-returns-2
@@ -63,7 +69,8 @@ returns-2 c =
 
 add-next : tie.Need-add-t29
 add-next c =
-    let found = c .before .before .before .before in
+    let acts = c .before .before in
+    let found = acts .before .before in
     let f = found .before .before in
     let s = entered f .args .state in
     let inside = rw (found .found .given .1) at (f .fetch .ensures .inside) in
@@ -73,8 +80,9 @@ returns-3 : tie.Need-returns-3
 returns-3 c =
     let time = c .before .before .before in
     let acts = time .before in
-    let told = acts .before .before .found .given in
-    let f = acts .before .before .before .before in
+    let found = acts .before .before in
+    let told = found .found .given in
+    let f = found .before .before in
     let s = entered f .args .state in
     let at : fetched f ≡ Decoded.Instruction (told .0 .0) (told .0 .1 .0) = sym (f .fetch .ensures .answered) ∙ told .1 in
     let step = c .before .perform .ensures
