@@ -5,17 +5,26 @@ use borrow.Author.Needs.{needs}
 use Rattle.audit_script.proofs.assess.know_next.Statement.{statement}
 use Rattle.audit_script.proofs.assess.know_next.Tie as tie
 
+-- from the count of pokes up to where the data half is known
+abbrev data-known : tie.After-poke-count → tie.After-known-data
+data-known c = c .before .before .before
+
 add-t9 : tie.Need-add-t9
-add-t9 c = omega (arith, poke-small (c .before .before .before .before .before .before .args .action), c .before .poke-count .ensures)
+add-t9 c =
+    let d = data-known (c .before) in
+    omega (arith, poke-small (d .before .before .args .action), c .before .poke-count .ensures)
 
 returns : tie.Need-returns
-returns c = simp (
-  c .before .before .before .before .before .before .before .known-addr .ensures,
-  c .before .before .before .before .before .before .known-data .ensures,
-  c .before .before .before .before .before .known-paused .ensures,
-  c .before .before .before .poke-count .ensures,
-  c .before .wait-length .ensures,
-)
+returns c =
+    let pokes = c .before .before .before in
+    let d = data-known pokes in
+    simp (
+      d .before .known-addr .ensures,
+      d .known-data .ensures,
+      pokes .before .before .known-paused .ensures,
+      pokes .poke-count .ensures,
+      c .before .wait-length .ensures,
+    )
 
 pub know-next-spec : {M : Type 1} → statement M
 know-next-spec =

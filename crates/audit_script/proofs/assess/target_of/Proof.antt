@@ -7,7 +7,9 @@ returns : tie.Need-returns
 returns c = simp (c .enum-told .given .1)
 
 returns-3 : tie.Need-returns-3
-returns-3 c = simp (c .before .before .before .before .enum-told2 .given .1, c .before .before .known .given .1, c .merge .ensures)
+returns-3 c =
+    let told = c .before .before in
+    simp (told .before .before .enum-told2 .given .1, told .known .given .1, c .merge .ensures)
 
 pub target-of-spec : {M : Type 1} → statement M
 target-of-spec =

@@ -33,7 +33,7 @@ abbrev μ-loop : tie.MeasureT-loop
 -- what the function was given
 module _ (c : tie.After-know-nothing Inv-loop μ-loop) where
   abbrev given : tie.Start Inv-loop μ-loop
-  given = c .before .before .before .before
+  given = let lent = c .before in lent .before .before .before
 
   abbrev script : Script
   script = let a = given .args in scriptOf (a .family) (now (a .code)) (now (a .marks)) (a .entry .0)
