@@ -7,7 +7,7 @@ use Rattle.run_replay.proofs.replays.after_slot_step.Tie as tie
 
 -- where the progress and the step came in
 abbrev entered : tie.After-fetched → tie.Start
-entered c = c .before .before .before .before
+entered c = let flags = c .before .before in flags .before .before
 
 -- the effect has been counted
 abbrev counted : tie.After-struct-known6 → tie.After-written

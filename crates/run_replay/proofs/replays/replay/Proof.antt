@@ -38,7 +38,7 @@ module _ (c : tie.After-run) where
   columns = asked .before .before .before
 
   abbrev entered : tie.Start
-  entered = columns .before .before .before .before .before
+  entered = let marks = columns .before .before .before in marks .before .before
 
   abbrev script : Script
   script = let a = entered .args in scriptOf (a .family) (now (a .code)) (now (a .marks)) (a .entry .0)
@@ -58,10 +58,14 @@ module _ (c : tie.After-run) where
       subst (λ (f : Flags). Runs (slotGiven script registers) f new) (asked .flags-from-words .ensures)
       (subst (λ (s : Slot). Runs s (asked .flags-from-words .result) new) (asked .before .slot-at-entry .ensures) h)
 
+-- from where the lent entries are back up to the run
+abbrev ran-at : tie.After-slice-known2 → tie.After-run
+ran-at c = c .before .before
+
 told-requires : tie.Need-told-requires
 told-requires c κs =
     let ended = c .before in
-    let r = ended .before .before .before .before in
+    let r = ran-at (ended .before .before) in
     let answered = sym (runs r (r .run .ensures) .answered) ∙ ended .answer .given .1 in
     let scene = replayScene (script r) (registers r) (log r) in
     left-fits (log r) (ended-valid scene (slotGiven (script r) (registers r)) (flagsGiven (registers r)) _ _ answered) _
@@ -69,14 +73,14 @@ told-requires c κs =
 returns : tie.Need-returns
 returns c =
     let a = c .before .before in
-    let r = a .before .before .before .before in
+    let r = ran-at (a .before .before) in
     replays (script r) (registers r) (log r) _ _ (r .run .result) _ (runs r (r .run .ensures))
     (ap ReplayAnswer.Ended (c .told .ensures) ∙ ap (toldAnswer _) (sym (a .answer .given .1)))
 
 returns-2 : tie.Need-returns-2
 returns-2 c =
     let a = c .before in
-    let r = a .before .before .before .before in
+    let r = ran-at (a .before .before) in
     replays (script r) (registers r) (log r) _ _ (r .run .result) _ (runs r (r .run .ensures)) (ap (toldAnswer _) (sym (a .answer2 .given .1)))
 
 pub replay-spec : {M : Type 1} → statement M

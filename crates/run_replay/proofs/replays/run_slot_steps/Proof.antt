@@ -47,10 +47,10 @@ loop-holds c = (rw (c .begin .ensures), refl, omega arith)
 -- what the loop knows
 module _ (c : tie.At-loop Inv-loop μ-loop) where
   abbrev columns : tie.After-shared-slice-known5 Inv-loop μ-loop
-  columns = c .before .before .before .before
+  columns = let sized = c .before .before in sized .before .before
 
   abbrev entered : tie.Start Inv-loop μ-loop
-  entered = columns .before .before .before .before .before
+  entered = let marks = columns .before .before .before in marks .before .before
 
   abbrev scene : Scene
   scene =
@@ -86,10 +86,14 @@ module _ (c : tie.At-loop Inv-loop μ-loop) where
         lent = c .loop .inv .1 ∙ ap (λ (r : SlotRun). writtenInto (now (entered .args .writes)) (r .writes)) run-is;
       }
 
+-- from the test whether the slot runs up to the loop
+abbrev looped : tie.After-is-running Inv-loop μ-loop → tie.At-loop Inv-loop μ-loop
+looped c = c .before .before .before
+
 -- a step that is taken
 module _ (c : tie.After-take-slot-step Inv-loop μ-loop) where
   abbrev in-slot-step : tie.Else1 Inv-loop μ-loop
-  in-slot-step = c .before .before .before .before
+  in-slot-step = let asked = c .before .before in asked .before .before
 
   abbrev loop : tie.At-loop Inv-loop μ-loop
   loop = in-slot-step .before
@@ -166,11 +170,11 @@ returns c =
     ended l (ap (run (scene l) (slot l) (flags l)) (omega (arith, l .before .before .code-size .ensures)))
 
 same-length-2 : tie.Need-same-length-2 Inv-loop μ-loop
-same-length-2 c = same (c .before .before .before .before)
+same-length-2 c = same (looped (c .before))
 
 returns-2 : tie.Need-returns-2 Inv-loop μ-loop
 returns-2 c =
-    let l = c .before .before .before .before in
+    let l = looped (c .before) in
     let rests = sym (c .before .is-running .ensures) ∙ not-true _ (c .if2 .taken) in
     ended l
     (run-rests (scene l) (slot l) (flags l) (l .loop .steps) (ap (λ (p : Progress). isRunning (p .slot .mode)) (sym (l .loop .inv .0)) ∙ rests)

@@ -14,10 +14,10 @@ use Rattle.run_replay.proofs.replays.take_slot_step.Tie as tie
 -- what the fetch was asked
 module _ (f : tie.After-fetch) where
   abbrev slots : tie.After-shared-slice-known5
-  slots = f .before .before .before .before .before
+  slots = let flags = f .before .before .before in flags .before .before
 
   abbrev entered : tie.Start
-  entered = slots .before .before .before .before .before
+  entered = let marks = slots .before .before .before in marks .before .before
 
   abbrev log : Log
   log = let a = entered .args in logOf (now (a .clocks)) (now (a .known)) (now (a .values))
@@ -37,7 +37,8 @@ returns c =
 
 add-next : tie.Need-add-t20
 add-next c =
-    let found = c .before .before .before .before in
+    let acts = c .before .before in
+    let found = acts .before .before in
     let f = found .before .before in
     let a = entered f .args in
     let inside = rw (found .found .given .1) at (f .fetch .ensures .inside) in

@@ -12,7 +12,8 @@ returns : tie.Need-returns
 returns c =
     let ending = c .before .before .before in
     let place = ending .before .before .before in
-    let start = place .before .before .before .before in
+    let slot = place .before .before in
+    let start = slot .before .before in
     let left = leftOf (now (start .args .clocks)) (start .args .last .place) in
     let fits : left % 2 ^ 64 ≡ left = omega (arith, start .pre) in
     simp (ending .ending-of .ensures, c .before .before .flags-word-0 .ensures, c .before .flags-word-1 .ensures, c .clocks-left .ensures ∙ fits)
