@@ -12,19 +12,19 @@ use Rattle.audit_witness.proofs.rows.extend.Tie as tie
 -- where an arm begins, and what the function was given
 module _ (c : tie.After-struct-known) where
   abbrev start : tie.Start
-  start = c .before .before .before .before .before
+  start = let values = c .before .before in values .before .before .before
 
 -- the ewait that is done, and the row that is put where the present one does not release it
 module _ (c : tie.After-put-row) where
   abbrev kept : tie.Else1
-  kept = c .before .before .before .before
+  kept = let lent = c .before in lent .before .before .before
 
   abbrev ewait : tie.After-action2
   ewait = kept .before .before .before
 
 -- from the last place of that arm back to where the row is put
 abbrev row-put : tie.After-slice-known6 → tie.After-put-row
-row-put c = c .before .before .before .before .before .before
+row-put c = let known = c .before .before .before in known .before .before .before
 
 -- a wait's clocks still fit
 longer-requires : tie.Need-longer-requires

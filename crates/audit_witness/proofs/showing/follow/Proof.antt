@@ -27,7 +27,7 @@ abbrev μ-loop : tie.MeasureT-loop
 -- what the function was given, and the columns that it was lent
 module _ (c : tie.After-begin Inv-loop μ-loop) where
   abbrev bytes-known : tie.After-shared-slice-known Inv-loop μ-loop
-  bytes-known = c .before .before .before .before .before .before
+  bytes-known = let clocks = c .before .before .before in clocks .before .before .before
 
   abbrev start : tie.Start Inv-loop μ-loop
   start = bytes-known .before
@@ -49,8 +49,11 @@ loop-holds c =
 
 -- what was found, and where it lies
 module _ (c : tie.After-found Inv-loop μ-loop) where
+  abbrev asked : tie.After-fetch Inv-loop μ-loop
+  asked = c .before .before
+
   abbrev loop : tie.At-loop Inv-loop μ-loop
-  loop = c .before .before .before .before .before
+  loop = asked .before .before .before
 
   abbrev given : tie.Start Inv-loop μ-loop
   given = start (loop .before)
@@ -62,17 +65,21 @@ module _ (c : tie.After-found Inv-loop μ-loop) where
   size = c .found .given .0 .1 .0
 
   fetched : fetchAt (script (loop .before)) (loop .loop .at) ≡ Decoded.Instruction instruction size
-  fetched = sym (c .before .before .fetch .ensures .answered) ∙ c .found .given .1
+  fetched = sym (asked .fetch .ensures .answered) ∙ c .found .given .1
 
   apart : loop .loop .at ≡ given .args .place .0 → ⊥
-  apart = c .before .before .before .if1 .left
+  apart = asked .before .if1 .left
 
   lies : (0 < size) × (loop .loop .at + size ≤ 512)
   lies = inside (loop .loop .inv) (room (loop .before)) apart instruction size fetched
 
+-- from the columns that are lent to go on up to the action
+abbrev action-at : tie.After-extend-arg3 Inv-loop μ-loop → tie.After-action-of Inv-loop μ-loop
+action-at c = c .before .before .before
+
 extend-requires : tie.Need-extend-requires Inv-loop μ-loop
 extend-requires c κs =
-    let acted = c .before .before .before in
+    let acted = action-at c in
     let f = acted .before .before in
     let l = loop f in
     let p = place-left (l .loop .inv) (room (l .before)) in
@@ -82,10 +89,10 @@ extend-requires c κs =
 -- one instruction done
 module _ (c : tie.After-slice-known6 Inv-loop μ-loop) where
   abbrev extended : tie.After-extend Inv-loop μ-loop
-  extended = c .before .before .before .before .before .before
+  extended = let known = c .before .before .before in known .before .before .before
 
   abbrev acted : tie.After-action-of Inv-loop μ-loop
-  acted = extended .before .before .before .before
+  acted = action-at (extended .before)
 
   abbrev found : tie.After-found Inv-loop μ-loop
   found = acted .before .before
@@ -113,19 +120,23 @@ module _ (c : tie.Joined1 Inv-loop μ-loop) where
       (λ w. absurd (never-refused (left .loop .inv .walk) (w .0 .left) _ (sym (w .1 .ensures .answered) ∙ w .3 .given .1)))
       (c .if1 .came)
 
+-- from the columns that are lent for the last row up to there
+abbrev left-at : tie.After-put-row-arg3 Inv-loop μ-loop → tie.Joined1 Inv-loop μ-loop
+left-at c = let row = c .before .before .before in row .before
+
 put-row-requires : tie.Need-put-row-requires Inv-loop μ-loop
 put-row-requires c κs =
-    let j = c .before .before .before .before in
+    let j = left-at c in
     let l = left j in
     rw (arrives j .0) (place-left (l .loop .inv) (room (l .before)))
 
 -- the last row is put
 module _ (c : tie.After-slice-known9 Inv-loop μ-loop) where
   abbrev put : tie.After-put-row Inv-loop μ-loop
-  put = c .before .before .before .before .before .before
+  put = let known = c .before .before .before in known .before .before .before
 
   abbrev joined : tie.Joined1 Inv-loop μ-loop
-  joined = put .before .before .before .before .before
+  joined = left-at (put .before)
 
   abbrev last-loop : tie.At-loop Inv-loop μ-loop
   last-loop = left joined

@@ -18,7 +18,10 @@ use Rattle.audit_witness.proofs.showing.witness.Tie as tie
 -- what the function was given
 module _ (c : tie.After-audit) where
   abbrev start : tie.Start
-  start = c .before .before .before .before .before .before .before
+  start =
+      let clocks = c .before .before .before in
+      let code = clocks .before .before .before in
+      code .before
 
   abbrev lent : Log
   lent = let a = start .args in logOf (now (a .clocks)) (now (a .known)) (now (a .values))
@@ -49,19 +52,26 @@ returns-2 c =
 
 -- and the columns are long enough
 module _ (c : tie.After-place-of) where
+  abbrev clocks-long : tie.Else2
+  clocks-long = c .before .before .before
+
   abbrev took : tie.Else1
-  took = c .before .before .before .before
+  took = clocks-long .before
 
   long : Room maxShown (lent (audited took))
   long = record {
-    clocks = c .before .before .before .if2 .left;
+    clocks = clocks-long .if2 .left;
     known = ltb-false _ _ (c .before .before .if3 .left);
     values = ltb-false _ _ (c .before .if4 .left);
   }
 
+-- from the columns that are lent to follow up to the place
+abbrev place-at : tie.After-follow-arg3 → tie.After-place-of
+place-at c = c .before .before .before
+
 follow-requires : tie.Need-follow-requires
 follow-requires c κs =
-    let placed = c .before .before .before in
+    let placed = place-at c in
     let t = took placed in
     let l = long placed in
     (fits t, placed .place-of .ensures ∙ ap placeOf (audited t .audit .ensures .answered), l .clocks, l .known, l .values)
@@ -69,10 +79,13 @@ follow-requires c κs =
 -- the log was made
 module _ (c : tie.After-struct-known) where
   abbrev followed : tie.After-follow
-  followed = c .before .before .before .before .before .before .before
+  followed =
+      let known = c .before .before .before in
+      let clocks = known .before .before .before in
+      clocks .before
 
   abbrev placed : tie.After-place-of
-  placed = followed .before .before .before .before
+  placed = place-at (followed .before)
 
 add-t16 : tie.Need-add-t16
 add-t16 c =
