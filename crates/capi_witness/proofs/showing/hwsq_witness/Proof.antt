@@ -6,7 +6,10 @@ use Rattle.capi_witness.proofs.showing.hwsq_witness.Tie as tie
 
 -- what was answered, before the columns come back
 abbrev answered : tie.After-witness-reply → tie.After-witness
-answered c = c .before .before .before .before .before .before .before
+answered c =
+    let known = c .before .before .before in
+    let clocks = known .before .before .before in
+    clocks .before
 
 returns : tie.Need-returns
 returns c = witness-passed (answered c .witness .ensures) (c .witness-reply .ensures)
