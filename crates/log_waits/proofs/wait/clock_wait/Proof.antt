@@ -54,7 +54,9 @@ clock-wait-spec =
     (λ c. search needs)
     (λ c κs. search needs)
     -- a row's clocks fit 64 bits
-    (λ c. let test = c .before .before .before in let l = test .before in omega (arith, c .before .unused .ensures, l .before .shared-slice-known .given (l .loop .row)))
+    (λ c. let test = c .before .before .before in
+    let l = test .before in
+    omega (arith, c .before .unused .ensures, l .before .shared-slice-known .given (l .loop .row)))
     returns
     (λ c. search needs)
     (λ c. search needs)
