@@ -25,7 +25,7 @@ use Rattle.script.specs.Input.{marksPlain}
 use Rattle.machine_step.specs.declared.steps.Stepped.{Stepped}
 use Rattle.run.specs.Run.{begun, nextStep, runFor}
 use Rattle.audit_verdict.specs.Demand3.{withAddr, withData}
-use Rattle.audit_verdict.specs.Start.{SlotInType, InType, Start}
+use Rattle.audit_verdict.specs.Start.{SlotInType, StateInType, Start}
 use Rattle.script.specs.Script.{Script}
 use Rattle.script.proofs.Scripts.{Fits, Auditable}
 use Rattle.run.specs.SlotRun.{slotBegun, nextSlotStep, slotRunFor, slotAtEntry, stateWith, slotRunOf, Holds}
@@ -96,7 +96,7 @@ abbrev pub someState : Script → ℕ → ℕ → State
 someState x addr word = stateWith (filledScene (sceneUnder x (logOf [] [] []))) (slotAtEntry (x .entry) addr word) (record { values = 0; enables = 0 })
 
 module _ {x : Script} (fit : Auditable x) (addr word : ℕ) (small-addr : addr < 2 ^ 32) (small-word : word < 2 ^ 32) where
-  some-in-type : InType (someState x addr word)
+  some-in-type : StateInType (someState x addr word)
   some-in-type =
       let fam = bounds 1 (x .family) 4 (fit .fits .known) in
       let size = size-small (x .family) in
@@ -145,7 +145,7 @@ withSlots s a b = record {
   b = b;
 }
 
-in-type-with : {s : State} {a b : Slot} → InType s → SlotInType a → SlotInType b → InType (withSlots s a b)
+in-type-with : {s : State} {a b : Slot} → StateInType s → SlotInType a → SlotInType b → StateInType (withSlots s a b)
 in-type-with i small-a small-b = record {
   family = i .family;
   code-size = i .code-size;

@@ -13,7 +13,7 @@ use Rattle.isa.specs.Writer.{opcodeOf}
 use Rattle.isa.specs.declared.instructions.Instruction.{Instruction}
 use Rattle.isa.proofs.Tests.{both-left, both-right}
 use Rattle.isa_fetch.proofs.Places.{size-small, fetch-lies}
-use Rattle.log.specs.Rows.{clocksOf, knownOf, valuesOf, logIn}
+use Rattle.log.specs.Rows.{rowClocks, rowKnown, rowValues, logOfRows}
 use Rattle.log.specs.Validity.{rowsInRange, validLog}
 use Rattle.log.specs.declared.row.Row.{Row}
 use Rattle.machine_actions.specs.Action.{actionOf}
@@ -102,8 +102,8 @@ row-fits-after Action.Exit row c r m = same-row m
 -- ---- what holds of the rows of a log
 
 record InLog (rows : List Row) : Type 0 where
-  range : rowsInRange (clocksOf rows) ≡ true
-  masks : MasksInType (logIn rows)
+  range : rowsInRange (rowClocks rows) ≡ true
+  masks : MasksInType (logOfRows rows)
 
 no-rows : InLog []
 no-rows = record { range = refl; masks = record { known-bits = λ i. lit< tt; value-bits = λ i. lit< tt } }
@@ -121,8 +121,8 @@ one-more : {c : ℕ} (row : Row) (rows : List Row) → RowFits c row → c ≤ l
 one-more row rows m h r = record {
   range = rw (le-leb 1 (row .clocks) (m .least), le-leb (row .clocks) (2 ^ 48) (omega (arith, m .most)), r .range) refl;
   masks = record {
-    known-bits = mask-more (row .known) (knownOf rows) (m .known-bits) (r .masks .known-bits);
-    value-bits = mask-more (row .values) (valuesOf rows) (m .value-bits) (r .masks .value-bits);
+    known-bits = mask-more (row .known) (rowKnown rows) (m .known-bits) (r .masks .known-bits);
+    value-bits = mask-more (row .values) (rowValues rows) (m .value-bits) (r .masks .value-bits);
   };
 }
 

@@ -9,7 +9,7 @@ use lib.ListN.{length, getD, drop, length-map, length-drop, length-append}
 use borrow.Author.Tests.{ltb-true}
 use Rattle.isa.proofs.Tests.{both-left, both-right}
 use Rattle.log.specs.Log.{Log}
-use Rattle.log.specs.Rows.{clocksOf, knownOf, valuesOf, logIn}
+use Rattle.log.specs.Rows.{rowClocks, rowKnown, rowValues, logOfRows}
 use Rattle.log.specs.declared.place.Place.{Place}
 use Rattle.log.specs.declared.row.Row.{Row}
 use Rattle.log_waits.specs.Left.{leftIn, leftOf}
@@ -77,11 +77,11 @@ continues (action ∷ actions) row = continues-before action row (rowsOver actio
 
 -- the first of the rows from a place on
 record FirstAt (at : ℕ) (log : List Row) (row : Row) (rows : List Row) : Type 0 where
-  lasts : getD (clocksOf log) at 0 ≡ row .clocks
-  knows : getD (knownOf log) at 0 ≡ row .known
-  reads : getD (valuesOf log) at 0 ≡ row .values
+  lasts : getD (rowClocks log) at 0 ≡ row .clocks
+  knows : getD (rowKnown log) at 0 ≡ row .known
+  reads : getD (rowValues log) at 0 ≡ row .values
   rest : drop (suc at) log ≡ rows
-  inside : at < length (clocksOf log)
+  inside : at < length (rowClocks log)
 
 first-at : (at : ℕ) (log : List Row) (row : Row) (rows : List Row) → drop at log ≡ row ∷ rows → FirstAt at log row rows
 first-at zero [] row rows e = never (cc)
@@ -106,7 +106,7 @@ module _ (log : List Row) where
     on : On (t .place) row rows
 
   abbrev elapsed : Action → Place → Elapsed
-  elapsed action p = elapsedOf action (logIn log) p
+  elapsed action p = elapsedOf action (logOfRows log) p
 
   -- the row releases it, or the next one does
   ewait-finishes : (event value : ℕ) (p : Place) (row : Row) (later : List Row) → canRelease event value ≡ true → (b : Bool) → releases row event value ≡ b
@@ -114,24 +114,24 @@ module _ (log : List Row) where
       → Finished (cond b [] (row ∷ [])) (cond b row (eventRow event value)) later (elapsed (Action.Ewait event value) p)
   ewait-finishes event value p row later r true t c o =
       let d = first-at (p .row) log (c .first) (c .rest) (o .ahead ∙ c .is) in
-      let there : hasReading (getD (knownOf log) (p .row) 0) (getD (valuesOf log) (p .row) 0) event value ≡ true
+      let there : hasReading (getD (rowKnown log) (p .row) 0) (getD (rowValues log) (p .row) 0) event value ≡ true
       = rw (d .knows, d .reads, c .knows, c .reads) t in
-      let e : ewaitOf (logIn log) p event value ≡ Released.At (record { row = p .row; used = p .used }) 0
-      = sym (in64-start (logIn log) event value p)
-      ∙ in64-here (logIn log) event value (p .row) (p .used) 0 (lit< tt) (d .inside) there in
+      let e : ewaitOf (logOfRows log) p event value ≡ Released.At (record { row = p .row; used = p .used }) 0
+      = sym (in64-start (logOfRows log) event value p)
+      ∙ in64-here (logOfRows log) event value (p .row) (p .used) 0 (lit< tt) (d .inside) there in
       rw e (record { passed = refl; finished = refl; on = record { ahead = o .ahead; used = o .used } })
   ewait-finishes event value p row later r false t c o =
       let d = first-at (p .row) log row later (o .ahead) in
       let next : p .row + 1 ≡ suc (p .row) = omega arith in
       let d′ = first-at (p .row + 1) log (c .first) (c .rest) (rw next (d .rest) ∙ c .is) in
-      let not-here : hasReading (getD (knownOf log) (p .row) 0) (getD (valuesOf log) (p .row) 0) event value ≡ false = rw (d .knows, d .reads) t in
-      let there : hasReading (getD (knownOf log) (p .row + 1) 0) (getD (valuesOf log) (p .row + 1) 0) event value ≡ true
+      let not-here : hasReading (getD (rowKnown log) (p .row) 0) (getD (rowValues log) (p .row) 0) event value ≡ false = rw (d .knows, d .reads) t in
+      let there : hasReading (getD (rowKnown log) (p .row + 1) 0) (getD (rowValues log) (p .row + 1) 0) event value ≡ true
       = rw (d′ .knows, d′ .reads, c .knows, c .reads) (row-releases event value r) in
-      let passed = (0 + (getD (clocksOf log) (p .row) 0 - p .used)) % 2 ^ 64 in
-      let e : ewaitOf (logIn log) p event value ≡ Released.At (record { row = p .row + 1; used = 0 }) passed
-      = sym (in64-start (logIn log) event value p)
-      ∙ in64-next (logIn log) event value (p .row) (p .used) 0 (d .inside) not-here
-      ∙ in64-here (logIn log) event value (p .row + 1) 0 passed (omega arith) (d′ .inside) there in
+      let passed = (0 + (getD (rowClocks log) (p .row) 0 - p .used)) % 2 ^ 64 in
+      let e : ewaitOf (logOfRows log) p event value ≡ Released.At (record { row = p .row + 1; used = 0 }) passed
+      = sym (in64-start (logOfRows log) event value p)
+      ∙ in64-next (logOfRows log) event value (p .row) (p .used) 0 (d .inside) not-here
+      ∙ in64-here (logOfRows log) event value (p .row + 1) 0 passed (omega arith) (d′ .inside) there in
       let one : passed ≡ 1 = omega (arith, d .lasts, o .used) in
       rw e (record { passed = one; finished = refl; on = record { ahead = rw next (d .rest); used = refl } })
 
@@ -141,7 +141,7 @@ module _ (log : List Row) where
       → Finished (rowsEnded action row) (rowAfter action row) later (elapsed action p)
   finishes (Action.Wait n) p row later f c o =
       let d = first-at (p .row) log (c .first) (c .rest) (o .ahead ∙ c .is) in
-      rw (wait-in (clocksOf log) (p .row) (p .used) n (d .inside) (omega (arith, d .lasts, c .longer, o .used)))
+      rw (wait-in (rowClocks log) (p .row) (p .used) n (d .inside) (omega (arith, d .lasts, c .longer, o .used)))
       (record { passed = refl; finished = refl; on = record { ahead = o .ahead; used = omega (arith, o .used) } })
   finishes (Action.Ewait event value) p row later f c o = ewait-finishes event value p row later (f event value refl) (releases row event value) refl c o
   finishes (Action.Flag change flag) p row later f c o = record { passed = refl; finished = refl; on = o }
@@ -150,12 +150,12 @@ module _ (log : List Row) where
   finishes Action.Exit p row later f c o = record { passed = refl; finished = refl; on = o }
 
   -- in the last row one clock is left
-  last-left : (p : Place) (row : Row) → On p row (row ∷ []) → leftOf (clocksOf log) p ≡ 1
+  last-left : (p : Place) (row : Row) → On p row (row ∷ []) → leftOf (rowClocks log) p ≡ 1
   unfolding leftIn
   last-left p row o =
       let d = first-at (p .row) log row [] (o .ahead) in
       let none : length (drop (suc (p .row)) log) ≡ 0 = ap length (d .rest) in
-      let one : length (clocksOf log) - p .row ≡ 1 = omega (arith, d .inside, none, length-drop (suc (p .row)) log, length-map log (λ (r : Row). r .clocks)) in
+      let one : length (rowClocks log) - p .row ≡ 1 = omega (arith, d .inside, none, length-drop (suc (p .row)) log, length-map log (λ (r : Row). r .clocks)) in
       rw one (omega (arith, d .lasts, o .used))
 
 -- ---- the whole walk
@@ -166,7 +166,7 @@ module _ {x : Script} {ranges : List ℕ} {p : ℕ} {k : Knowledge} {q : ℕ} {l
   witnessRows = rowsOver (actionsOf w) firstRow
 
   abbrev pub witnessLog : Log
-  witnessLog = logIn witnessRows
+  witnessLog = logOfRows witnessRows
 
 -- a run at the end of the walk, with one clock of the log left, where ewaits passed by so many but for one
 pub record Arrived (x : Script) (ranges : List ℕ) (log : Log) (addr word q : ℕ) (l : Knowledge) (passed : ℕ) (r : SlotRun) : Type 0 where
@@ -177,15 +177,15 @@ pub record Arrived (x : Script) (ranges : List ℕ) (log : Log) (addr word q : �
 module _ {x : Script} {ranges : List ℕ} (log : List Row) where
   reach-on : {addr word p q : ℕ} {k l : Knowledge} {r : SlotRun} (w : Walk x ranges p k q l) (row : Row) → Agree x ranges addr word p k r
       → On log (r .place) row (rowsOver (actionsOf w) row)
-      → Arrived x ranges (logIn log) addr word q l (length (rowsOver (actionsOf w) row) + r .ewaits)
-      (slotRunFor (sceneUnder x (logIn log)) (length (actionsOf w)) r)
+      → Arrived x ranges (logOfRows log) addr word q l (length (rowsOver (actionsOf w) row) + r .ewaits)
+      (slotRunFor (sceneUnder x (logOfRows log)) (length (actionsOf w)) r)
   unfolding slotRunFor performOf
   reach-on {r = r} here row g o = record { agrees = g; one-left = last-left log (r .place) row o; passed-by = omega arith }
   reach-on {r = r} (more action n e f w) row g o =
       let next = rowAfter action row in
       let t = finishes log action (r .place) row (rowsOver (actionsOf w) next) (f .event) (continues (actionsOf w) next) o in
-      let does = performs x true (logIn log) (g .going) e in
-      let rest = reach-on w next (goes-on (logIn log) g e f (t .finished)) (rw (ap (λ (step : SlotStep). step .place) does) (t .on)) in
+      let does = performs x true (logOfRows log) (g .going) e in
+      let rest = reach-on w next (goes-on (logOfRows log) g e f (t .finished)) (rw (ap (λ (step : SlotStep). step .place) does) (t .on)) in
       let searched = ap (λ (step : SlotStep). step .searched) does in
       let sum = length-append (rowsEnded action row) (rowsOver (actionsOf w) next) in
       record { agrees = rest .agrees; one-left = rest .one-left; passed-by = omega (arith, rest .passed-by, searched, t .passed, sum) }

@@ -20,7 +20,7 @@ pub record SlotInType (slot : Slot) : Type 0 where
   pub addr : slot .addr .0 < 2 ^ 32
   pub word : slot .«data» < 2 ^ 32
 
-pub record InType (s : State) : Type 0 where
+pub record StateInType (s : State) : Type 0 where
   pub family : s .family < 2 ^ 8
   pub code-size : length (s .code) ≡ 512
   pub code-bytes : (i : ℕ) → getD (s .code) i 0 < 2 ^ 8
@@ -40,7 +40,7 @@ pub record MasksInType (log : Log) : Type 0 where
 
 -- a start of an audited script, in the named slot
 pub record Start (script : Script) (name : SlotName) (s : State) : Type 0 where
-  pub in-type : InType s
+  pub in-type : StateInType s
   -- a state of the audited family, which has the slot
   pub same-family : s .family ≡ script .family
   pub slot-there : hasSlot (script .family) name ≡ true

@@ -12,7 +12,7 @@ use Rattle.refusals.specs.Number.{faultNumber}
 use Rattle.refusals.specs.declared.refusals.Fault.{Fault}
 use Rattle.refusals.specs.declared.refusals.Unreadable.{Unreadable}
 use Rattle.log.specs.Log.{Log}
-use Rattle.log.specs.Rows.{logIn}
+use Rattle.log.specs.Rows.{logOfRows}
 use Rattle.log.specs.Validity.{validLog}
 use Rattle.log.specs.declared.row.Row.{Row}
 use Rattle.log_waits.specs.Left.{leftOf}
@@ -176,7 +176,7 @@ module _ (script : Script) where
 
     -- the log that its own way asks for, as many steps as that has actions, and its writes
     abbrev pub OwnLogShows : Verdict → Type 0
-    OwnLogShows verdict = let way = wayTo verdict in ShownBy (logIn (rowsOver way firstRow)) (length way) (writesOver way) verdict
+    OwnLogShows verdict = let way = wayTo verdict in ShownBy (logOfRows (rowsOver way firstRow)) (length way) (writesOver way) verdict
 
     -- the claim: of a script that may be audited its own log shows the verdict, whichever it is
     abbrev pub Witnessed : Verdict → Type 0

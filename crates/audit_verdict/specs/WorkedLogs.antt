@@ -12,8 +12,8 @@ use Rattle.audit_verdict.specs.Witness.{firstRow, rowsOver, writesOver, 
 abbrev pub wayOn : ℕ → List ℕ → List Action
 wayOn family bytes = wayTo (scriptOn family bytes 0) (verdictOn family bytes 0 everything)
 
-abbrev pub row : ℕ → ℕ → ℕ → Row
-row clocks known values = record { clocks = clocks; known = known; values = values }
+abbrev pub workedRow : ℕ → ℕ → ℕ → Row
+workedRow clocks known values = record { clocks = clocks; known = known; values = values }
 
 -- the rows, the steps and the writes
 abbrev pub shownAs : List Action → List Row → ℕ → ℕ → Type 0
@@ -42,10 +42,10 @@ alternating zero = 0x7f ∷ []
 alternating (suc n) = 0x5f ∷ 0x01 ∷ 0x01 ∷ 0x5f ∷ 0x01 ∷ 0x00 ∷ alternating n
 
 abbrev pub WorkedLogs : Type 0
-WorkedLogs = shownAs (wayOn 2 lowHalfAlone) (row 1 0 0 ∷ row 1 2 2 ∷ []) 2 0
-    × shownAs (wayOn 2 reclock) (row 1 0 0 ∷ row 129 2 2 ∷ row 1 2 0 ∷ row 257 4 4 ∷ []) 9 1
-    × shownAs (wayOn 2 twice) (row 1 0 0 ∷ row 129 8 8 ∷ []) 3 0
-    × shownAs (wayOn 2 stuckAt) (row 1 0 0 ∷ row 1 2 2 ∷ []) 1 0
-    × shownAs (wayOn 1 (0x05 ∷ 0x40 ∷ [])) (row 129 0 0 ∷ []) 1 0
+WorkedLogs = shownAs (wayOn 2 lowHalfAlone) (workedRow 1 0 0 ∷ workedRow 1 2 2 ∷ []) 2 0
+    × shownAs (wayOn 2 reclock) (workedRow 1 0 0 ∷ workedRow 129 2 2 ∷ workedRow 1 2 0 ∷ workedRow 257 4 4 ∷ []) 9 1
+    × shownAs (wayOn 2 twice) (workedRow 1 0 0 ∷ workedRow 129 8 8 ∷ []) 3 0
+    × shownAs (wayOn 2 stuckAt) (workedRow 1 0 0 ∷ workedRow 1 2 2 ∷ []) 1 0
+    × shownAs (wayOn 1 (0x05 ∷ 0x40 ∷ [])) (workedRow 129 0 0 ∷ []) 1 0
     -- no fewer rows than may be asked for: some log has them all
     × (length (rowsOver (wayOn 4 (alternating 85)) firstRow) ≡ maxShown)

@@ -23,13 +23,13 @@ use Rattle.audit_verdict.proofs.Cases.{never, either}
 use Rattle.audit_verdict.proofs.Table.{worked-logs}
 use Rattle.audit_script.specs.Promises.{Audits}
 use Rattle.audit_witness.specs.Inside.{Follows}
-use Rattle.audit_witness.specs.Witnesses.{hasRoom, way, rows, witnessOf, witnessRefusal, Witnesses}
+use Rattle.audit_witness.specs.Witnesses.{lentEnough, way, rows, witnessOf, witnessRefusal, Witnesses}
 use Rattle.audit_witness.specs.declared.rows.Timeline.{Timeline}
 use Rattle.audit_witness.specs.declared.showing.WitnessAnswer.{WitnessAnswer}
 
 -- ---- room in the columns
 
-has-room : (lent : Log) → Room maxShown lent → hasRoom lent ≡ true
+has-room : (lent : Log) → Room maxShown lent → lentEnough lent ≡ true
 has-room lent r =
     rw (
       le-leb maxShown (length (lent .clocks)) (r .clocks),
@@ -37,13 +37,13 @@ has-room lent r =
       le-leb maxShown (length (lent .values)) (r .values),
     ) refl
 
-pub few-clocks : (lent : Log) → length (lent .clocks) < maxShown → hasRoom lent ≡ false
+pub few-clocks : (lent : Log) → length (lent .clocks) < maxShown → lentEnough lent ≡ false
 few-clocks lent h = rw (lt-leb maxShown (length (lent .clocks)) h) refl
 
-pub few-known : (lent : Log) → length (lent .known) < maxShown → hasRoom lent ≡ false
+pub few-known : (lent : Log) → length (lent .known) < maxShown → lentEnough lent ≡ false
 few-known lent h = rw (lt-leb maxShown (length (lent .known)) h) (and-false (leb maxShown (length (lent .clocks))))
 
-pub few-values : (lent : Log) → length (lent .values) < maxShown → hasRoom lent ≡ false
+pub few-values : (lent : Log) → length (lent .values) < maxShown → lentEnough lent ≡ false
 few-values lent h =
     rw (lt-leb maxShown (length (lent .values)) h, and-false (leb maxShown (length (lent .known)))) (and-false (leb maxShown (length (lent .clocks))))
 
@@ -83,7 +83,7 @@ module _ (x : Script) (ranges : List ℕ) where
     unfolding witnessOf witnessRefusal
     refuses-input i = record { answered = rw i refl; numbered = rw i refl; columns = refl; shows = tt; worked = worked-logs }
 
-    pub refuses-room : inputFits x ranges ≡ true → hasRoom lent ≡ false → Refuses Unshowable.Room
+    pub refuses-room : inputFits x ranges ≡ true → lentEnough lent ≡ false → Refuses Unshowable.Room
     unfolding witnessOf witnessRefusal
     refuses-room i r = record { answered = rw (i, r) refl; numbered = rw (i, r) refl; columns = refl; shows = tt; worked = worked-logs }
 

@@ -20,8 +20,8 @@ use Rattle.audit_script.specs.Promises.{Audits}
 use Rattle.audit_witness.specs.declared.showing.WitnessAnswer.{WitnessAnswer}
 
 -- 171 entries in each column
-abbrev pub hasRoom : Log → Bool
-hasRoom lent = leb maxShown (length (lent .clocks)) && (leb maxShown (length (lent .known)) && leb maxShown (length (lent .values)))
+abbrev pub lentEnough : Log → Bool
+lentEnough lent = leb maxShown (length (lent .clocks)) && (leb maxShown (length (lent .known)) && leb maxShown (length (lent .values)))
 
 -- the number that an answer stands for, 0 where a log was made
 abbrev pub witnessNumber : WitnessAnswer → ℕ
@@ -42,7 +42,7 @@ module _ (script : Script) (ranges : List ℕ) (lent : Log) where
   unfoldable pub witnessOf : WitnessAnswer
   witnessOf =
       cond (inputFits script ranges)
-      (cond (hasRoom lent)
+      (cond (lentEnough lent)
       (WitnessAnswer.Shown (record {
         verdict = auditOf script ranges;
         rows = length rows;
@@ -56,7 +56,7 @@ module _ (script : Script) (ranges : List ℕ) (lent : Log) where
   unfoldable pub witnessRefusal : ℕ
   witnessRefusal =
       cond (not (inputFits script ranges)) 9
-      (cond (not (hasRoom lent)) 14
+      (cond (not (lentEnough lent)) 14
       0)
 
   -- the columns after the answer: the log and then as lent, and after a refusal as lent

@@ -1,6 +1,6 @@
 // The instruction reader, its answer as numbers.
 ghost use mathlib.Core.Path.{_≡_};
-ghost use Rattle.capi_codec.specs.Decoding.{readAs, instructionReply, unreadReply, decodeReply, HwsqDecode};
+ghost use Rattle.capi_codec.specs.Decoding.{decodedReply, instructionReply, unreadReply, decodeReply, HwsqDecode};
 use isa::Decoded;
 use isa::Instruction;
 
@@ -46,7 +46,7 @@ fn unread(refusal: u8) -> DecodeReply
 }
 
 fn read_word(kind: u8, word: u32, length: usize) -> DecodeReply
-    ensures { λ r. ⌜ r ≡ readAs kind word 0 length ⌝ }
+    ensures { λ r. ⌜ r ≡ decodedReply kind word 0 length ⌝ }
 {
     DecodeReply {
         refusal: 0,
@@ -58,13 +58,13 @@ fn read_word(kind: u8, word: u32, length: usize) -> DecodeReply
 }
 
 fn read_half(kind: u8, half: u16, length: usize) -> DecodeReply
-    ensures { λ r. ⌜ r ≡ readAs kind half 0 length ⌝ }
+    ensures { λ r. ⌜ r ≡ decodedReply kind half 0 length ⌝ }
 {
     read_word(kind, half as u32, length)
 }
 
 fn read_bytes(kind: u8, first: u8, second: u8, length: usize) -> DecodeReply
-    ensures { λ r. ⌜ r ≡ readAs kind first second length ⌝ }
+    ensures { λ r. ⌜ r ≡ decodedReply kind first second length ⌝ }
 {
     DecodeReply {
         refusal: 0,

@@ -30,8 +30,8 @@ slotFrom image = record { mode = modeOf (image .mode); ip = record { 0 = image .
 unfoldable pub slotImage : Slot → SlotImage
 slotImage slot = record { mode = modeNumber (slot .mode); addr = slot .addr .0; «data» = slot .«data»; ip = slot .ip .0 }
 
-unfoldable pub stateFrom : StateImage → State
-stateFrom image = record {
+unfoldable pub imageState : StateImage → State
+imageState image = record {
   family = image .family;
   code = image .code;
   marks = image .marks;

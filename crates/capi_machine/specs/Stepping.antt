@@ -10,14 +10,14 @@ use Rattle.machine_slot.specs.declared.slot_steps.Effect.{Effect}
 use Rattle.machine_step.specs.Step.{stepOf}
 use Rattle.machine_step.specs.Promises.{Steps}
 use Rattle.machine_step.specs.declared.steps.Stepped.{Stepped}
-use Rattle.capi_machine.specs.Images.{stateFrom, stateImage}
+use Rattle.capi_machine.specs.Images.{imageState, stateImage}
 use Rattle.capi_machine.specs.declared.images.StateImage.{StateImage}
 use Rattle.capi_machine.specs.declared.stepping.EffectNumbers.{EffectNumbers}
 use Rattle.capi_machine.specs.declared.stepping.StepReply.{StepReply}
 
 -- 0 is slot A, every other number slot B
-abbrev pub slotNamed : ℕ → SlotName
-slotNamed slot = cond (eqb slot 0) SlotName.A SlotName.B
+abbrev pub slotNumbered : ℕ → SlotName
+slotNumbered slot = cond (eqb slot 0) SlotName.A SlotName.B
 
 -- 0 nothing, 1 stopped, 2 unknown opcode, 3 done, 4 wrote
 abbrev pub effectNumbers : Effect → EffectNumbers
@@ -46,9 +46,9 @@ stepReply stepped = let told : EffectNumbers = effectNumbers (stepped .effect) i
 -- is handed in again
 module _ (image : StateImage) (slot : ℕ) (log : Log) (row used : ℕ) where
   abbrev pub stepAnswer : Stepped
-  stepAnswer = stepOf (stateFrom image) (slotNamed slot) log (record { row = row; used = used })
+  stepAnswer = stepOf (imageState image) (slotNumbered slot) log (record { row = row; used = used })
 
   pub record HwsqStep (reply : StepReply) : Type 0 where
     pub answered : reply ≡ stepReply stepAnswer
-    pub steps : Steps (stateFrom image) (slotNamed slot) log (record { row = row; used = used }) stepAnswer
-    pub handed-on : stateFrom (reply .state) ≡ stepAnswer .state
+    pub steps : Steps (imageState image) (slotNumbered slot) log (record { row = row; used = used }) stepAnswer
+    pub handed-on : imageState (reply .state) ≡ stepAnswer .state

@@ -2,11 +2,11 @@
 ghost use mathlib.Core.Path.{_≡_};
 ghost use Rattle.capi_machine.specs.Accesses.{accessReply, readReply, HwsqFresh, HwsqWrite, HwsqRead};
 use crate::images::StateImage;
-use crate::images::state_from;
 use crate::images::state_image;
+use crate::images::state_of_image;
 use host_registers::Access;
 use host_registers::Outcome;
-use host_registers::Reading;
+use host_registers::ReadAnswer;
 use isa::MmioAddress;
 
 #[repr(C)]
@@ -36,7 +36,7 @@ pub extern "C" fn hwsq_fresh(family: u8) -> AccessReply
 pub extern "C" fn hwsq_write(state: StateImage, address: u32, word: u32) -> AccessReply
     ensures { λ r. ⌜ HwsqWrite state address word r ⌝ }
 {
-    access_reply(host_access::write_register(state_from(state), MmioAddress(address), word))
+    access_reply(host_access::write_register(state_of_image(state), MmioAddress(address), word))
 }
 
 // The word that the host reads at an address.
@@ -44,15 +44,15 @@ pub extern "C" fn hwsq_write(state: StateImage, address: u32, word: u32) -> Acce
 pub extern "C" fn hwsq_read(state: StateImage, address: u32) -> ReadReply
     ensures { λ r. ⌜ HwsqRead state address r ⌝ }
 {
-    read_reply(host_access::read_register(state_from(state), MmioAddress(address)))
+    read_reply(host_access::read_register(state_of_image(state), MmioAddress(address)))
 }
 
-fn read_reply(reading: Reading) -> ReadReply
+fn read_reply(reading: ReadAnswer) -> ReadReply
     ensures { λ r. ⌜ r ≡ readReply reading ⌝ }
 {
     match reading {
-        Reading::Word(word) => ReadReply { refusal: 0, word },
-        Reading::Refused(why) => ReadReply {
+        ReadAnswer::Word(word) => ReadReply { refusal: 0, word },
+        ReadAnswer::Refused(why) => ReadReply {
             refusal: refusals::inaccessible_number(why),
             word: 0,
         },

@@ -1,6 +1,6 @@
 // The machine's state as C holds it: the same registers, with numbers for modes.
 ghost use mathlib.Core.Path.{_≡_};
-ghost use Rattle.capi_machine.specs.Images.{modeOf, modeNumber, slotFrom, slotImage, stateFrom, stateImage};
+ghost use Rattle.capi_machine.specs.Images.{modeOf, modeNumber, slotFrom, slotImage, imageState, stateImage};
 use isa::CodeAddress;
 use isa::MmioAddress;
 use machine_flags::Flags;
@@ -81,8 +81,8 @@ fn slot_image(slot: Slot) -> SlotImage
     }
 }
 
-pub fn state_from(image: StateImage) -> State
-    ensures { λ r. ⌜ r ≡ stateFrom image ⌝ }
+pub fn state_of_image(image: StateImage) -> State
+    ensures { λ r. ⌜ r ≡ imageState image ⌝ }
 {
     let code = image.code;
     let marks = image.marks;

@@ -1,13 +1,13 @@
 // Whether memory is paused.
 ghost use mathlib.Core.Path.{_≡_};
 ghost use Rattle.machine_flags.specs.Flags.{pausedOf};
-ghost use Rattle.capi_machine.specs.Images.{stateFrom};
+ghost use Rattle.capi_machine.specs.Images.{imageState};
 use crate::images::StateImage;
 use machine_flags::Flags;
 
 #[no_mangle]
 pub extern "C" fn hwsq_paused(state: StateImage) -> bool
-    ensures { λ r. ⌜ r ≡ pausedOf ((stateFrom state) .family) ((stateFrom state) .flags) ⌝ }
+    ensures { λ r. ⌜ r ≡ pausedOf ((imageState state) .family) ((imageState state) .flags) ⌝ }
 {
     machine_flags::memory_paused(
         state.family,

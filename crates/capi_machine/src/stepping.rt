@@ -1,10 +1,10 @@
 // One step of a slot.
 ghost use mathlib.Core.Path.{_≡_};
-ghost use Rattle.capi_machine.specs.Stepping.{slotNamed, effectNumbers, stepReply, HwsqStep};
+ghost use Rattle.capi_machine.specs.Stepping.{slotNumbered, effectNumbers, stepReply, HwsqStep};
 ghost use Rattle.log.specs.Log.{logOf};
 use crate::images::StateImage;
-use crate::images::state_from;
 use crate::images::state_image;
+use crate::images::state_of_image;
 use isa::MmioAddress;
 use log::Place;
 use machine_slot::Effect;
@@ -54,7 +54,7 @@ pub extern "C" fn hwsq_step<'a>(
     ensures { λ r. ⌜ HwsqStep state slot (logOf (now (clocks .entry)) (now (known .entry)) (now (values .entry))) row used r ⌝ }
 {
     step_reply(machine_step::step(
-        state_from(state),
+        state_of_image(state),
         slot_named(slot),
         clocks,
         known,
@@ -64,7 +64,7 @@ pub extern "C" fn hwsq_step<'a>(
 }
 
 fn slot_named(slot: u8) -> SlotName
-    ensures { λ r. ⌜ r ≡ slotNamed slot ⌝ }
+    ensures { λ r. ⌜ r ≡ slotNumbered slot ⌝ }
 {
     if slot == 0 { SlotName::A } else { SlotName::B }
 }

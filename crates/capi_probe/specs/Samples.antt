@@ -22,17 +22,17 @@ gateOf gate low high =
 abbrev pub calibrationOf : ℕ → ℕ → Calibration
 calibrationOf gain offset = record { gain = floatOf gain; offset = floatOf offset }
 
-abbrev pub readingNumber : Reading → ℕ
-readingNumber Reading.Zero = 0
-readingNumber Reading.One = 1
-readingNumber Reading.Missing = 2
+abbrev pub readingCode : Reading → ℕ
+readingCode Reading.Zero = 0
+readingCode Reading.One = 1
+readingCode Reading.Missing = 2
 
 -- a refused sample is no reading, and has NaN for volts, since 0.0 is a voltage
 abbrev pub unsampledReply : SampleReply
 unsampledReply = record { refusal = unusable; reading = 2; volts = nanPattern }
 
 abbrev pub sampledReply : Sampled → ℕ → SampleReply
-sampledReply (Sampled.Read reading) volts = record { refusal = 0; reading = readingNumber reading; volts = volts }
+sampledReply (Sampled.Read reading) volts = record { refusal = 0; reading = readingCode reading; volts = volts }
 sampledReply Sampled.Refused volts = unsampledReply
 
 -- a number that names no gate is refused as one that does not fit

@@ -1,6 +1,6 @@
 // Probe gates, with floats as bit patterns.
 ghost use mathlib.Core.Path.{_≡_};
-ghost use Rattle.capi_probe.specs.Samples.{gateOf, unsampledReply, readingNumber, sampledReply, HwsqSample};
+ghost use Rattle.capi_probe.specs.Samples.{gateOf, unsampledReply, readingCode, sampledReply, HwsqSample};
 use probe_gates::Calibration;
 use probe_gates::Gate;
 use probe_gates::Reading;
@@ -59,7 +59,7 @@ fn gate_of(gate: u8, low: u32, high: u32) -> Gate
 }
 
 fn reading_number(reading: Reading) -> u8
-    ensures { λ r. ⌜ r ≡ readingNumber reading ⌝ }
+    ensures { λ r. ⌜ r ≡ readingCode reading ⌝ }
 {
     match reading {
         Reading::Zero => 0,

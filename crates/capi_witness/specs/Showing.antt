@@ -28,12 +28,12 @@ toldReply verdict place count clocks shown = record {
   writes = shown .writes;
 }
 
-abbrev pub toldOf : Verdict → Shown → WitnessReply
-toldOf (Verdict.Pass place count writes clocks) shown = toldReply 0 place count clocks shown
-toldOf (Verdict.Fault fault place) shown = toldReply (faultNumber fault) place 0 0 shown
+abbrev pub shownReply : Verdict → Shown → WitnessReply
+shownReply (Verdict.Pass place count writes clocks) shown = toldReply 0 place count clocks shown
+shownReply (Verdict.Fault fault place) shown = toldReply (faultNumber fault) place 0 0 shown
 
 abbrev pub shownReply : Shown → WitnessReply
-shownReply shown = toldOf (shown .verdict) shown
+shownReply shown = shownReply (shown .verdict) shown
 
 -- refused: there is no verdict, and 0 would be a pass
 abbrev pub unshownReply : ℕ → WitnessReply

@@ -18,7 +18,7 @@ use crate::triggers::after_trigger;
 use crate::triggers::is_start;
 use host_registers::Access;
 use host_registers::Outcome;
-use host_registers::Reading;
+use host_registers::ReadAnswer;
 use host_registers::Register;
 use host_registers::Written;
 use isa::MmioAddress;
@@ -38,8 +38,8 @@ fn after_write(
     marks: &mut [u8; 512],
 ) -> Sequencer
     requires { ⌜ InRoom register ⌝ }
-    ensures { λ r. ⌜ stateFrom r (now (code .exit)) (now (marks .exit)) ≡ afterWrite (stateFrom sequencer (now (code .entry)) (now
-        (marks .entry))) register word ⌝ }
+    ensures { λ r. ⌜ stateFrom r (now (code .exit)) (now (marks .exit))
+        ≡ afterWrite (stateFrom sequencer (now (code .entry)) (now (marks .entry))) register word ⌝ }
 {
     match register {
         Register::Control => {
@@ -106,8 +106,8 @@ pub fn write(
     code: &mut [u8; 512],
     marks: &mut [u8; 512],
 ) -> Written
-    ensures { λ r. ⌜ WritesInPlace (stateFrom sequencer (now (code .entry)) (now (marks .entry))) address word (accessOf r (now (code .exit)) (now
-        (marks .exit))) ⌝ }
+    ensures { λ r. ⌜ WritesInPlace (stateFrom sequencer (now (code .entry)) (now (marks .entry))) address word
+        (accessOf r (now (code .exit)) (now (marks .exit))) ⌝ }
 {
     let a = sequencer.a;
     let b = sequencer.b;
@@ -146,7 +146,7 @@ fn control_word(enable: bool, override_mode: bool) -> u32
 }
 
 // What a register reads as. TRIGGER and EVENTS cannot be read.
-fn reading_of(state: State, register: Register) -> Reading
+fn reading_of(state: State, register: Register) -> ReadAnswer
     requires { ⌜ InRoom register ⌝ }
     ensures { λ r. ⌜ r ≡ readingOf state register ⌝ }
 {
@@ -155,23 +155,23 @@ fn reading_of(state: State, register: Register) -> Reading
         Register::Control => control_word(state.enable, state.override_mode),
         Register::EntryPoint => state.entries,
         Register::Status => status_word(state),
-        Register::Trigger => return Reading::Refused(Inaccessible::Register),
+        Register::Trigger => return ReadAnswer::Refused(Inaccessible::Register),
         Register::Flags0 => machine_flags::flags_word_0(flags),
         Register::Flags1 => machine_flags::flags_word_1(flags),
         Register::EntryPointHigh => entry_bits(state.entries_high),
         Register::Code(at) => code_word(state, at.0),
-        Register::Events => return Reading::Refused(Inaccessible::Register),
-        Register::Unlisted => return Reading::Refused(Inaccessible::Register),
+        Register::Events => return ReadAnswer::Refused(Inaccessible::Register),
+        Register::Unlisted => return ReadAnswer::Refused(Inaccessible::Register),
     };
-    Reading::Word(word)
+    ReadAnswer::Word(word)
 }
 
 // The word that the host reads at an address.
-pub fn read_register(state: State, address: MmioAddress) -> Reading
+pub fn read_register(state: State, address: MmioAddress) -> ReadAnswer
     ensures { λ r. ⌜ HostReads state address r ⌝ }
 {
     if !families::known_family(state.family) {
-        return Reading::Refused(Inaccessible::Family);
+        return ReadAnswer::Refused(Inaccessible::Family);
     }
     reading_of(state, register_at(state.family, address))
 }

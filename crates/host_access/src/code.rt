@@ -5,6 +5,7 @@ ghost use lib.Seq.{sets};
 ghost use Rattle.isa.specs.Writer.{leBytes};
 ghost use Rattle.host_registers.specs.Code.{byteIn, codeWord, fourMarks};
 use machine_state::State;
+use words::word;
 
 // Uploads four bytes from a place on, and marks them.
 pub(crate) fn upload(code: &mut [u8; 512], marks: &mut [u8; 512], at: usize, word: u32)
@@ -33,19 +34,13 @@ fn uploaded_byte(code: [u8; 512], marks: [u8; 512], at: usize) -> u8
     if marks[at] == 1 { code[at] } else { 0 }
 }
 
-fn word_of(a: u8, b: u8, c: u8, d: u8) -> u32
-    ensures { λ r. ⌜ r ≡ a + 256 * b + 65536 * c + 16777216 * d ⌝ }
-{
-    a as u32 + 256 * (b as u32) + 65536 * (c as u32) + 16777216 * (d as u32)
-}
-
 pub(crate) fn code_word(state: State, at: usize) -> u32
     requires { ⌜ at + 4 ≤ 512 ⌝ }
     ensures { λ r. ⌜ r ≡ codeWord state at ⌝ }
 {
     let code = state.code;
     let marks = state.marks;
-    word_of(
+    word(
         uploaded_byte(code, marks, at),
         uploaded_byte(code, marks, at + 1),
         uploaded_byte(code, marks, at + 2),

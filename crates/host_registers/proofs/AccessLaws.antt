@@ -22,7 +22,7 @@ use Rattle.host_registers.proofs.BackLaws.{Roomy, word-back}
 use Rattle.host_registers.proofs.RegisterLaws.{register-in-room}
 use Rattle.host_registers.specs.declared.access.Access.{Access}
 use Rattle.host_registers.specs.declared.access.Outcome.{Outcome}
-use Rattle.host_registers.specs.declared.access.Reading.{Reading}
+use Rattle.host_registers.specs.declared.access.ReadAnswer.{ReadAnswer}
 use Rattle.refusals.specs.declared.refusals.Inaccessible.{Inaccessible}
 use Rattle.host_registers.specs.declared.registers.Register.{Register}
 
@@ -175,7 +175,7 @@ module _ (s : State) (address : MmioAddress) (word : ℕ) where
       simp (u, trigger-here h, h, z) (record { taken = refl; idle = stopped-mode s name; ip = stopped-ip s name; still = stopped-still s name })
 
   write-back : Roomy s → word < 2 ^ 32 → writeOf s address word .outcome ≡ Outcome.Done → isReadable register ≡ true
-      → readOf (writeOf s address word .state) address ≡ Reading.Word (keptBits register word)
+      → readOf (writeOf s address word .state) address ≡ ReadAnswer.Word (keptBits register word)
   unfolding writeOf readOf
   write-back roomy small =
       cond-elim Back (knownFamily (s .family))
@@ -187,7 +187,7 @@ module _ (s : State) (address : MmioAddress) (word : ℕ) where
       (λ u d r. undone d)
     where
       Back : Access → Type 0
-      Back t = t .outcome ≡ Outcome.Done → isReadable register ≡ true → readOf (t .state) address ≡ Reading.Word (keptBits register word)
+      Back t = t .outcome ≡ Outcome.Done → isReadable register ≡ true → readOf (t .state) address ≡ ReadAnswer.Word (keptBits register word)
 
       undone : {A : Type 0} {why : Inaccessible} → Outcome.Refused why ≡ Outcome.Done → A
       undone e = let z : _≡_ {A = ℕ} 0 1 = cc in absurd (omega arith)
@@ -225,7 +225,7 @@ reading-number s Register.Events = refl
 reading-number s Register.Unlisted = refl
 
 module _ (s : State) (address : MmioAddress) where
-  abbrev Numbered : Reading → Type 0
+  abbrev Numbered : ReadAnswer → Type 0
   Numbered t = readingNumber t ≡ readRefusal s address
 
   read-number : Numbered (readOf s address)
@@ -236,10 +236,10 @@ module _ (s : State) (address : MmioAddress) where
   unfolding readOf
   read-as u = simp u
 
-  pub host-reads : {t : Reading} → t ≡ readOf s address → HostReads s address t
+  pub host-reads : {t : ReadAnswer} → t ≡ readOf s address → HostReads s address t
   host-reads e = record {
     answered = e;
     numbered = subst Numbered (sym e) read-number;
-    trigger = λ u h. subst (λ (t : Reading). readingNumber t ≡ 27) (sym e) (rw (read-as u, trigger-here s address 0 h));
-    events = λ u h. subst (λ (t : Reading). readingNumber t ≡ 27) (sym e) (rw (read-as u, events-here s address 0 h));
+    trigger = λ u h. subst (λ (t : ReadAnswer). readingNumber t ≡ 27) (sym e) (rw (read-as u, trigger-here s address 0 h));
+    events = λ u h. subst (λ (t : ReadAnswer). readingNumber t ≡ 27) (sym e) (rw (read-as u, events-here s address 0 h));
   }

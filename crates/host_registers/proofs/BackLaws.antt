@@ -19,7 +19,7 @@ use Rattle.host_registers.specs.Entry.{entryBits}
 use Rattle.host_registers.specs.Promises.{isReadable, keptBits}
 use Rattle.host_registers.specs.Register.{InRoom, isWritable}
 use Rattle.host_registers.specs.Status.{bitIf}
-use Rattle.host_registers.specs.declared.access.Reading.{Reading}
+use Rattle.host_registers.specs.declared.access.ReadAnswer.{ReadAnswer}
 use Rattle.host_registers.specs.declared.registers.Register.{Register}
 
 never : {A : Type 0} → false ≡ true → A
@@ -84,7 +84,7 @@ module _ (s : State) (roomy : Roomy s) (at word : ℕ) (fits : at + 4 ≤ 512) w
 
 pub word-back : (s : State) → Roomy s → (register : Register) (word : ℕ) → word < 2 ^ 32 → InRoom register → isWritable register ≡ true
     → isReadable register ≡ true
-    → readingOf (afterWrite s register word) register ≡ Reading.Word (keptBits register word)
+    → readingOf (afterWrite s register word) register ≡ ReadAnswer.Word (keptBits register word)
 word-back s roomy Register.Control word h room w r = rw (control-back word)
 word-back s roomy Register.EntryPoint word h room w r = refl
 word-back s roomy Register.Status word h room w r = never (cc)

@@ -19,7 +19,7 @@ use Rattle.host_registers.specs.Status.{bitIf, statusWord}
 use Rattle.host_registers.specs.Trigger.{isStart, afterTrigger}
 use Rattle.host_registers.specs.declared.access.Access.{Access}
 use Rattle.host_registers.specs.declared.access.Outcome.{Outcome}
-use Rattle.host_registers.specs.declared.access.Reading.{Reading}
+use Rattle.host_registers.specs.declared.access.ReadAnswer.{ReadAnswer}
 use Rattle.host_registers.specs.declared.access.Written.{Written}
 use Rattle.refusals.specs.declared.refusals.Inaccessible.{Inaccessible}
 use Rattle.host_registers.specs.declared.registers.Register.{Register}
@@ -125,18 +125,18 @@ writeOf s address word =
     (refused s Inaccessible.Family)
 
 -- what each register reads as; TRIGGER is write only, and EVENTS is not read either
-abbrev pub readingOf : State → Register → Reading
-readingOf s Register.Control = Reading.Word (controlWord (s .enable) (s .«override_mode»))
-readingOf s Register.EntryPoint = Reading.Word (s .entries)
-readingOf s Register.Status = Reading.Word (statusWord s)
-readingOf s Register.Trigger = Reading.Refused Inaccessible.Register
-readingOf s Register.Flags0 = Reading.Word (flagsWord0 (s .flags))
-readingOf s Register.Flags1 = Reading.Word (flagsWord1 (s .flags))
-readingOf s Register.EntryPointHigh = Reading.Word (entryBits (s .«entries_high»))
-readingOf s (Register.Code at) = Reading.Word (codeWord s (at .0))
-readingOf s Register.Events = Reading.Refused Inaccessible.Register
-readingOf s Register.Unlisted = Reading.Refused Inaccessible.Register
+abbrev pub readingOf : State → Register → ReadAnswer
+readingOf s Register.Control = ReadAnswer.Word (controlWord (s .enable) (s .«override_mode»))
+readingOf s Register.EntryPoint = ReadAnswer.Word (s .entries)
+readingOf s Register.Status = ReadAnswer.Word (statusWord s)
+readingOf s Register.Trigger = ReadAnswer.Refused Inaccessible.Register
+readingOf s Register.Flags0 = ReadAnswer.Word (flagsWord0 (s .flags))
+readingOf s Register.Flags1 = ReadAnswer.Word (flagsWord1 (s .flags))
+readingOf s Register.EntryPointHigh = ReadAnswer.Word (entryBits (s .«entries_high»))
+readingOf s (Register.Code at) = ReadAnswer.Word (codeWord s (at .0))
+readingOf s Register.Events = ReadAnswer.Refused Inaccessible.Register
+readingOf s Register.Unlisted = ReadAnswer.Refused Inaccessible.Register
 
 -- a read is refused for the family first
-unfoldable pub readOf : State → MmioAddress → Reading
-readOf s address = cond (knownFamily (s .family)) (readingOf s (registerAt (s .family) address)) (Reading.Refused Inaccessible.Family)
+unfoldable pub readOf : State → MmioAddress → ReadAnswer
+readOf s address = cond (knownFamily (s .family)) (readingOf s (registerAt (s .family) address)) (ReadAnswer.Refused Inaccessible.Family)

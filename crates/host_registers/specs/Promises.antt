@@ -16,7 +16,7 @@ use Rattle.host_registers.specs.Register.{triggerAt, registerAt, isWrita
 use Rattle.host_registers.specs.Trigger.{isStart, slotNamed}
 use Rattle.host_registers.specs.declared.access.Access.{Access}
 use Rattle.host_registers.specs.declared.access.Outcome.{Outcome}
-use Rattle.host_registers.specs.declared.access.Reading.{Reading}
+use Rattle.host_registers.specs.declared.access.ReadAnswer.{ReadAnswer}
 use Rattle.host_registers.specs.declared.registers.Register.{Register}
 
 -- the number that an outcome stands for, 0 where nothing was refused
@@ -24,9 +24,9 @@ abbrev pub outcomeNumber : Outcome → ℕ
 outcomeNumber Outcome.Done = 0
 outcomeNumber (Outcome.Refused why) = inaccessibleNumber why
 
-abbrev pub readingNumber : Reading → ℕ
-readingNumber (Reading.Word word) = 0
-readingNumber (Reading.Refused why) = inaccessibleNumber why
+abbrev pub readingNumber : ReadAnswer → ℕ
+readingNumber (ReadAnswer.Word word) = 0
+readingNumber (ReadAnswer.Refused why) = inaccessibleNumber why
 
 -- which number a fresh state must have: 9 where the number names no family
 abbrev pub freshRefusal : ℕ → ℕ
@@ -108,11 +108,11 @@ pub record HostWrites (s : State) (address : MmioAddress) (word : ℕ) (answer :
   pub stops : knownFamily (s .family) ≡ true → address .0 ≡ triggerAt → isStart word ≡ false → Stops s (slotNamed (s .family) word) answer
   -- what was written reads back
   pub reads-back : answer .outcome ≡ Outcome.Done → isReadable (registerAt (s .family) address) ≡ true
-      → readOf (answer .state) address ≡ Reading.Word (keptBits (registerAt (s .family) address) word)
+      → readOf (answer .state) address ≡ ReadAnswer.Word (keptBits (registerAt (s .family) address) word)
   -- EVENTS is not writable
   pub events : knownFamily (s .family) ≡ true → address .0 ≡ 0x001578 → outcomeNumber (answer .outcome) ≡ 27
 
-pub record HostReads (s : State) (address : MmioAddress) (answer : Reading) : Type 0 where
+pub record HostReads (s : State) (address : MmioAddress) (answer : ReadAnswer) : Type 0 where
   pub answered : answer ≡ readOf s address
   pub numbered : readingNumber answer ≡ readRefusal s address
   -- TRIGGER and EVENTS are not readable

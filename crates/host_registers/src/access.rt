@@ -20,7 +20,7 @@ pub struct Written {
     pub outcome: Outcome,
 }
 
-pub enum Reading {
+pub enum ReadAnswer {
     Word(u32),
     Refused(Inaccessible),
 }

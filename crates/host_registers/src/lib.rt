@@ -4,6 +4,6 @@ mod registers;
 
 pub use access::Access;
 pub use access::Outcome;
-pub use access::Reading;
+pub use access::ReadAnswer;
 pub use access::Written;
 pub use registers::Register;

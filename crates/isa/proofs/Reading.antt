@@ -8,8 +8,8 @@ use native.Mathlib.Omega.{arith}
 use lib.Dec.{leb}
 use borrow.Author.Tests.{le-leb, lt-leb, le-ltb, lt-ltb, eq-eqb, ne-eqb, leb-true, leb-false}
 use Rattle.families.specs.Family.{knownFamily}
-use Rattle.isa.specs.Opcode.{opcodeAt, sizeOf, isUnknown}
-use Rattle.isa.specs.Reader.{readAs, decodeOf, decodedNumber, readRefusal}
+use Rattle.isa.specs.Opcode.{opcodeAt, sizeOf, isUnknownOpcode}
+use Rattle.isa.specs.Reader.{readAs, decodeOf, decodedNumber, decodeRefusal}
 use Rattle.isa.specs.declared.opcodes.Opcode.{Opcode}
 use Rattle.isa.specs.declared.reader.Decoded.{Decoded}
 use Rattle.refusals.specs.declared.refusals.Unreadable.{Unreadable}
@@ -50,7 +50,7 @@ same-read Opcode.Unknown bytes other h = refl
 
 -- ---- the refusals' numbers
 
-pub read-number : (k : Opcode) (bs : List ℕ) → decodedNumber (readAs k bs) ≡ cond (isUnknown k) 3 0
+pub read-number : (k : Opcode) (bs : List ℕ) → decodedNumber (readAs k bs) ≡ cond (isUnknownOpcode k) 3 0
 read-number Opcode.Wait bs = refl
 read-number Opcode.AddrLo bs = refl
 read-number Opcode.DataLo bs = refl
@@ -64,7 +64,7 @@ read-number Opcode.Data bs = refl
 read-number Opcode.Unknown bs = refl
 
 -- an opcode that takes more than a byte is a known one
-pub long-known : (k : Opcode) → 1 < sizeOf k → isUnknown k ≡ false
+pub long-known : (k : Opcode) → 1 < sizeOf k → isUnknownOpcode k ≡ false
 long-known Opcode.Wait h = refl
 long-known Opcode.AddrLo h = refl
 long-known Opcode.DataLo h = refl
@@ -77,8 +77,8 @@ long-known Opcode.Addr h = refl
 long-known Opcode.Data h = refl
 long-known Opcode.Unknown h = absurd (omega arith)
 
-pub read-numbered : (f : ℕ) (bs : List ℕ) → decodedNumber (decodeOf f bs) ≡ readRefusal f bs
-unfolding decodeOf readRefusal
+pub read-numbered : (f : ℕ) (bs : List ℕ) → decodedNumber (decodeOf f bs) ≡ decodeRefusal f bs
+unfolding decodeOf decodeRefusal
 read-numbered f bs =
     cond-elim P (knownFamily f)
     (λ u. cond-elim P (leb 1 (length bs))
@@ -97,4 +97,4 @@ read-numbered f bs =
     k = opcodeAt f (getD bs 0 0)
 
     P : Decoded → Type 0
-    P d = decodedNumber d ≡ readRefusal f bs
+    P d = decodedNumber d ≡ decodeRefusal f bs

@@ -7,7 +7,7 @@ use lib.Dec.{leb}
 use borrow.Author.Tests.{le-leb, lt-leb, le-ltb, lt-ltb, leb-true, leb-false}
 use Rattle.families.specs.Family.{knownFamily}
 use Rattle.isa.specs.Wait.{waitFits}
-use Rattle.isa.specs.Writer.{opcodeOf, onFamily, operandsFit, spell, encodeOf, encodedNumber, writeRefusal}
+use Rattle.isa.specs.Writer.{opcodeOf, onFamily, operandsFit, spell, encodeOf, encodedNumber, encodeRefusal}
 use Rattle.isa.specs.declared.instructions.Instruction.{Instruction}
 use Rattle.isa.specs.declared.encoding.Encoded.{Encoded}
 use Rattle.refusals.specs.declared.refusals.Unwritable.{Unwritable}
@@ -47,8 +47,8 @@ module _ (f : ℕ) (i : Instruction) (n : ℕ) where
       written w h = simp (u, v, w, le-leb (length (spell i)) n h)
 
 -- the tests in their order give the refusal's number
-pub write-numbered : (f : ℕ) (i : Instruction) (n : ℕ) → encodedNumber (encodeOf f i n) ≡ writeRefusal f i n
-unfolding encodeOf writeRefusal
+pub write-numbered : (f : ℕ) (i : Instruction) (n : ℕ) → encodedNumber (encodeOf f i n) ≡ encodeRefusal f i n
+unfolding encodeOf encodeRefusal
 write-numbered f i n =
     cond-elim P (knownFamily f)
     (λ u. cond-elim P (onFamily f (opcodeOf i))
@@ -61,4 +61,4 @@ write-numbered f i n =
     (λ u. simp u)
   where
     P : Encoded → Type 0
-    P e = encodedNumber e ≡ writeRefusal f i n
+    P e = encodedNumber e ≡ encodeRefusal f i n

@@ -3,8 +3,8 @@ use Prim.Native.Nat.{ℕ, _^_, _<_, _≤_}
 use mathlib.Core.Path.{_≡_}
 use mathlib.Core.List.{List, _++_}
 use lib.ListN.{length, take}
-use Rattle.isa.specs.Reader.{decodeOf, decodedNumber, readRefusal}
-use Rattle.isa.specs.Writer.{encodeOf, encodedNumber, writeRefusal, writtenOver, spell}
+use Rattle.isa.specs.Reader.{decodeOf, decodedNumber, decodeRefusal}
+use Rattle.isa.specs.Writer.{encodeOf, encodedNumber, encodeRefusal, writtenOver, spell}
 use Rattle.isa.specs.declared.instructions.Instruction.{Instruction}
 use Rattle.isa.specs.declared.reader.Decoded.{Decoded}
 use Rattle.isa.specs.declared.encoding.Encoded.{Encoded}
@@ -37,12 +37,12 @@ ReadsBack family instruction new (Encoded.Refused why) = Unit {0}
 -- what the reader promises of its answer to a family and bytes
 pub record Reads (family : ℕ) (bytes : List ℕ) (answer : Decoded) : Type 0 where
   pub answered : answer ≡ decodeOf family bytes
-  pub numbered : decodedNumber answer ≡ readRefusal family bytes
+  pub numbered : decodedNumber answer ≡ decodeRefusal family bytes
   pub spelled-so : OneSpelling family bytes answer
 
 -- what the writer promises of its answer and of the lent bytes, old and new
 pub record Writes (family : ℕ) (instruction : Instruction) (old new : List ℕ) (answer : Encoded) : Type 0 where
   pub answered : answer ≡ encodeOf family instruction (length old)
-  pub numbered : encodedNumber answer ≡ writeRefusal family instruction (length old)
+  pub numbered : encodedNumber answer ≡ encodeRefusal family instruction (length old)
   pub lent : new ≡ writtenOver old instruction answer
   pub reads-back : ReadsBack family instruction new answer

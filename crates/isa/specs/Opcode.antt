@@ -38,15 +38,15 @@ sizeOf Opcode.Addr = 5
 sizeOf Opcode.Data = 5
 sizeOf Opcode.Unknown = 1
 
-abbrev pub isUnknown : Opcode → Bool
-isUnknown Opcode.Wait = false
-isUnknown Opcode.AddrLo = false
-isUnknown Opcode.DataLo = false
-isUnknown Opcode.Ewait = false
-isUnknown Opcode.Exit = false
-isUnknown Opcode.Unset = false
-isUnknown Opcode.Set1 = false
-isUnknown Opcode.Set0 = false
-isUnknown Opcode.Addr = false
-isUnknown Opcode.Data = false
-isUnknown Opcode.Unknown = true
+abbrev pub isUnknownOpcode : Opcode → Bool
+isUnknownOpcode Opcode.Wait = false
+isUnknownOpcode Opcode.AddrLo = false
+isUnknownOpcode Opcode.DataLo = false
+isUnknownOpcode Opcode.Ewait = false
+isUnknownOpcode Opcode.Exit = false
+isUnknownOpcode Opcode.Unset = false
+isUnknownOpcode Opcode.Set1 = false
+isUnknownOpcode Opcode.Set0 = false
+isUnknownOpcode Opcode.Addr = false
+isUnknownOpcode Opcode.Data = false
+isUnknownOpcode Opcode.Unknown = true

@@ -6,7 +6,7 @@ use lib.ListN.{length, getD, take, drop}
 use lib.Dec.{leb, ltb, eqb}
 use Rattle.refusals.specs.Number.{unreadableNumber}
 use Rattle.families.specs.Family.{knownFamily}
-use Rattle.isa.specs.Opcode.{opcodeAt, sizeOf, isUnknown}
+use Rattle.isa.specs.Opcode.{opcodeAt, sizeOf, isUnknownOpcode}
 use Rattle.isa.specs.declared.instructions.Instruction.{Instruction}
 use Rattle.isa.specs.declared.opcodes.Opcode.{Opcode}
 use Rattle.isa.specs.declared.reader.Decoded.{Decoded}
@@ -51,11 +51,11 @@ decodedNumber (Decoded.Instruction instruction n) = 0
 decodedNumber (Decoded.Refused why) = unreadableNumber why
 
 -- which number it must be: 9 family, 1 no byte, 3 unknown, 1 missing operands, tested in this order
-unfoldable pub readRefusal : ℕ → List ℕ → ℕ
-readRefusal family bytes =
+unfoldable pub decodeRefusal : ℕ → List ℕ → ℕ
+decodeRefusal family bytes =
     let opcode = opcodeAt family (getD bytes 0 0) in
     cond (not (knownFamily family)) 9
     (cond (eqb (length bytes) 0) 1
-    (cond (isUnknown opcode) 3
+    (cond (isUnknownOpcode opcode) 3
     (cond (ltb (length bytes) (sizeOf opcode)) 1
     0)))

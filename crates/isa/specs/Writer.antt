@@ -91,8 +91,8 @@ encodedNumber (Encoded.Length n) = 0
 encodedNumber (Encoded.Refused why) = unwritableNumber why
 
 -- which number it must be: 9 family, 11 not on it, 12 an operand too large, 13 too few bytes lent, tested in this order
-unfoldable pub writeRefusal : ℕ → Instruction → ℕ → ℕ
-writeRefusal family instruction lent =
+unfoldable pub encodeRefusal : ℕ → Instruction → ℕ → ℕ
+encodeRefusal family instruction lent =
     cond (not (knownFamily family)) 9
     (cond (not (onFamily family (opcodeOf instruction))) 11
     (cond (not (operandsFit instruction)) 12

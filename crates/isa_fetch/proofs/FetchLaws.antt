@@ -10,7 +10,7 @@ use lib.ListN.{length, getD, drop, length-take, length-drop}
 use lib.Seq.{getD-drop, getD-take}
 use borrow.Author.Tests.{ltb-true, leb-true, eqb-true}
 use Rattle.families.specs.Family.{knownFamily, codeSize}
-use Rattle.isa.specs.Opcode.{opcodeAt, sizeOf, isUnknown}
+use Rattle.isa.specs.Opcode.{opcodeAt, sizeOf, isUnknownOpcode}
 use Rattle.isa.specs.Reader.{readAs, decodeOf}
 use Rattle.isa.specs.declared.opcodes.Opcode.{Opcode}
 use Rattle.isa.specs.declared.reader.Decoded.{Decoded}
@@ -87,7 +87,7 @@ module _ (family : ℕ) (code marks code′ marks′ : List ℕ) (room : codeSiz
         let l : at + sizeOf k ≤ codeSize family = omega (arith, size, length-drop at ram) in
         let same = same-marked (sizeOf k) at l in
         rw (read-checked k (drop at ram′) marks′ at, read-checked k (drop at ram) marks at)
-        (ap (cond (isUnknown k) (Decoded.Refused Unreadable.Unknown))
+        (ap (cond (isUnknownOpcode k) (Decoded.Refused Unreadable.Unknown))
         (same-test Unreadable.NotUploaded same
         (λ m. same-read k (drop at ram) (drop at ram′) (λ j i. same-byte j (omega arith) (marked-at (sizeOf k) marks at (sym same ∙ m) j i)))))
 

@@ -8,7 +8,7 @@ use native.Mathlib.Decide.{decLt}
 use lib.ListN.{length, getD, List·getD-eq-default}
 use lib.Dec.{eqb}
 use borrow.Author.Tests.{eq-eqb, ne-eqb, eqb-true}
-use Rattle.isa.specs.Opcode.{sizeOf, isUnknown}
+use Rattle.isa.specs.Opcode.{sizeOf, isUnknownOpcode}
 use Rattle.isa.specs.Reader.{readAs}
 use Rattle.isa.specs.declared.opcodes.Opcode.{Opcode}
 use Rattle.isa.specs.declared.reader.Decoded.{Decoded}
@@ -63,7 +63,8 @@ marked-at (suc n) marks i e (suc j) h =
 -- what the check of the marks leaves of what was read
 pub read-checked : (k : Opcode) (bytes marks : List ℕ) (at : ℕ)
     → checkMarks marks at (readAs k bytes)
-    ≡ cond (isUnknown k) (Decoded.Refused Unreadable.Unknown) (cond (allMarked (sizeOf k) marks at) (readAs k bytes) (Decoded.Refused Unreadable.NotUploaded))
+    ≡ cond (isUnknownOpcode k) (Decoded.Refused Unreadable.Unknown) (cond (allMarked (sizeOf k) marks at) (readAs k bytes)
+    (Decoded.Refused Unreadable.NotUploaded))
 read-checked Opcode.Wait bytes marks at = refl
 read-checked Opcode.AddrLo bytes marks at = refl
 read-checked Opcode.DataLo bytes marks at = refl

@@ -10,7 +10,7 @@ use lib.ListN.{length, getD, drop, length-drop}
 use lib.Seq.{getD-drop}
 use borrow.Author.Tests.{ltb-true, ltb-false, leb-true, leb-false, le-leb, lt-leb, le-ltb, lt-ltb}
 use Rattle.families.specs.Family.{knownFamily, codeSize}
-use Rattle.isa.specs.Opcode.{opcodeAt, sizeOf, isUnknown}
+use Rattle.isa.specs.Opcode.{opcodeAt, sizeOf, isUnknownOpcode}
 use Rattle.isa.specs.Reader.{readAs, decodeOf, decodedNumber}
 use Rattle.isa.specs.declared.opcodes.Opcode.{Opcode}
 use Rattle.isa.specs.declared.reader.Decoded.{Decoded}
@@ -27,20 +27,20 @@ ram-known family false e h = absurd (omega (arith, by-no-family family 64 128 25
 
 module _ (marks : List ℕ) (at : ℕ) (bytes : List ℕ) (k : Opcode) where
   -- the number of what was read, once its marks are looked at
-  checked-read : decodedNumber (checkMarks marks at (readAs k bytes)) ≡ cond (isUnknown k) 3 (cond (not (allMarked (sizeOf k) marks at)) 2 0)
+  checked-read : decodedNumber (checkMarks marks at (readAs k bytes)) ≡ cond (isUnknownOpcode k) 3 (cond (not (allMarked (sizeOf k) marks at)) 2 0)
   checked-read =
       rw (read-checked k bytes marks at)
-      (cond-elim P (isUnknown k) (λ u. simp u)
+      (cond-elim P (isUnknownOpcode k) (λ u. simp u)
       (λ u. cond-elim P (allMarked (sizeOf k) marks at) (λ m. read-number k bytes ∙ simp (u, m)) (λ m. simp (u, m))))
     where
       P : Decoded → Type 0
-      P d = decodedNumber d ≡ cond (isUnknown k) 3 (cond (not (allMarked (sizeOf k) marks at)) 2 0)
+      P d = decodedNumber d ≡ cond (isUnknownOpcode k) 3 (cond (not (allMarked (sizeOf k) marks at)) 2 0)
 
 -- the number of what the reader says of bytes, once its marks are looked at
 module _ (family : ℕ) (marks : List ℕ) (at : ℕ) (bytes : List ℕ) (k : Opcode) (u : knownFamily family ≡ true) (h : 0 < length bytes) (e : k
     ≡ opcodeAt family (getD bytes 0 0)) where
   checked-number : decodedNumber (checkMarks marks at (decodeOf family bytes))
-      ≡ cond (isUnknown k) 3 (cond (ltb (length bytes) (sizeOf k)) 1 (cond (not (allMarked (sizeOf k) marks at)) 2 0))
+      ≡ cond (isUnknownOpcode k) 3 (cond (ltb (length bytes) (sizeOf k)) 1 (cond (not (allMarked (sizeOf k) marks at)) 2 0))
   checked-number =
       elim (leb (sizeOf k) (length bytes)) as (λ b. leb (sizeOf k) (length bytes) ≡ b → Numbered) [
         | true ↦ λ l. let fits = leb-true (sizeOf k) (length bytes) l in
@@ -54,7 +54,7 @@ module _ (family : ℕ) (marks : List ℕ) (at : ℕ) (bytes : List ℕ) (k : Op
     where
       Numbered : Type 0
       Numbered = decodedNumber (checkMarks marks at (decodeOf family bytes))
-          ≡ cond (isUnknown k) 3 (cond (ltb (length bytes) (sizeOf k)) 1 (cond (not (allMarked (sizeOf k) marks at)) 2 0))
+          ≡ cond (isUnknownOpcode k) 3 (cond (ltb (length bytes) (sizeOf k)) 1 (cond (not (allMarked (sizeOf k) marks at)) 2 0))
 
 -- too few bytes from a place on are too few for what begins there
 same-cut : (ram : List ℕ) (at n : ℕ) → at < length ram → ltb (length (drop at ram)) n ≡ ltb (length ram) (at + n)

@@ -7,7 +7,7 @@ use mathlib.Core.List.{List}
 use lib.ListN.{length, getD, take, drop}
 use lib.Dec.{leb, ltb, eqb}
 use Rattle.families.specs.Family.{codeSize}
-use Rattle.isa.specs.Opcode.{opcodeAt, sizeOf, isUnknown}
+use Rattle.isa.specs.Opcode.{opcodeAt, sizeOf, isUnknownOpcode}
 use Rattle.isa.specs.Reader.{decodeOf, decodedNumber}
 use Rattle.isa.specs.Writer.{operandsFit}
 use Rattle.isa.specs.declared.reader.Decoded.{Decoded}
@@ -45,7 +45,7 @@ fetchRefusal family code marks at =
     let opcode = opcodeAt family (getD ram at 0) in
     cond (leb (length ram) at) 1
     (cond (not (eqb (getD marks at 0) 1)) 2
-    (cond (isUnknown opcode) 3
+    (cond (isUnknownOpcode opcode) 3
     (cond (ltb (length ram) (at + sizeOf opcode)) 1
     (cond (not (allMarked (sizeOf opcode) marks at)) 2
     0))))

@@ -5,16 +5,10 @@ ghost use Rattle.isa_fetch.specs.Fetch.{allMarked, checkMarks, codeRam, 
 use isa::CodeAddress;
 use isa::Decoded;
 use refusals::Unreadable;
+use words::byte_at;
 
 // The most bytes that a family's code RAM has.
 const MAX_CODE: usize = 512;
-
-// The mark of a byte, and 0 past the end.
-fn mark(marks: &[u8], at: usize) -> u8
-    ensures { λ r. ⌜ r ≡ getD (now (marks .entry)) at 0 ⌝ }
-{
-    if at < marks.len() { marks[at] } else { 0 }
-}
 
 // Whether each of the n bytes from a place on is marked as uploaded.
 fn all_marked(marks: &[u8], at: usize, n: usize) -> bool
@@ -23,7 +17,7 @@ fn all_marked(marks: &[u8], at: usize, n: usize) -> bool
     let mut i = at;
     let mut left = n;
     while 0 < left {
-        if mark(marks, i) != 1 {
+        if byte_at(marks, i) != 1 {
             return false;
         }
         i += 1;
@@ -69,7 +63,7 @@ pub fn fetch<'a>(family: u8, code: &'a [u8], marks: &'a [u8], place: CodeAddress
     if end <= at {
         return Decoded::Refused(Unreadable::Empty);
     }
-    if mark(marks, at) != 1 {
+    if byte_at(marks, at) != 1 {
         return Decoded::Refused(Unreadable::NotUploaded);
     }
     check_marks(isa_reader::decode(family, &code[at..end]), marks, at)

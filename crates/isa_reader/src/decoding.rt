@@ -4,7 +4,6 @@ ghost use Rattle.isa.specs.Reader.{readAs};
 ghost use Rattle.isa.specs.Codec.{Reads};
 use crate::opcodes::opcode_at;
 use crate::opcodes::size_of;
-use crate::operands::byte;
 use crate::operands::operand16;
 use crate::operands::operand32;
 use families::known_family;
@@ -13,6 +12,7 @@ use isa::Instruction;
 use isa::MmioAddress;
 use isa::Opcode;
 use refusals::Unreadable;
+use words::byte_at;
 
 // The instruction at the start of bytes.
 pub fn decode(family: u8, bytes: &[u8]) -> Decoded
@@ -36,7 +36,7 @@ pub fn decode(family: u8, bytes: &[u8]) -> Decoded
 fn read_as(opcode: Opcode, bytes: &[u8]) -> Decoded
     ensures { λ r. ⌜ r ≡ readAs opcode (now (bytes .entry)) ⌝ }
 {
-    let first = byte(bytes, 0);
+    let first = byte_at(bytes, 0);
     match opcode {
         Opcode::Wait => Decoded::Instruction(
             Instruction::Wait {
@@ -49,8 +49,8 @@ fn read_as(opcode: Opcode, bytes: &[u8]) -> Decoded
         Opcode::DataLo => Decoded::Instruction(Instruction::DataLo(operand16(bytes)), 3),
         Opcode::Ewait => Decoded::Instruction(
             Instruction::Ewait {
-                event: byte(bytes, 1),
-                value: byte(bytes, 2),
+                event: byte_at(bytes, 1),
+                value: byte_at(bytes, 2),
             },
             3,
         ),

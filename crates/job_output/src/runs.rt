@@ -13,7 +13,7 @@ ghost use Rattle.job_records.specs.Started.{executing as Started·executing};
 ghost use Rattle.job_report.specs.JobScript.{wordOf, statusOf};
 ghost use Rattle.job_output.specs.Inside.{RunsScript};
 use audit_verdict::Verdict;
-use host_registers::Reading;
+use host_registers::ReadAnswer;
 use isa::MmioAddress;
 use machine_state::Sequencer;
 use machine_state::Slot;
@@ -98,12 +98,12 @@ pub(crate) fn run_code<'a>(
     )
 }
 
-fn word_of(reading: Reading) -> u32
+fn word_of(reading: ReadAnswer) -> u32
     ensures { λ r. ⌜ r ≡ wordOf reading ⌝ }
 {
     match reading {
-        Reading::Word(word) => word,
-        Reading::Refused(_) => 0,
+        ReadAnswer::Word(word) => word,
+        ReadAnswer::Refused(_) => 0,
     }
 }
 

@@ -32,8 +32,8 @@ readIn (suc left) bytes at j =
     cond (eqb number 0) (cond (eqb (byteAt rest 0) end) (readAt 0 at j) later) (readAt number at j)
 
 -- 31 over so many bytes, at offset 0, first; then the records, each of which takes a byte at least
-unfoldable pub readOf : List ℕ → JobRead
-readOf bytes = cond (ltb maxBytes (length bytes)) (readAt 31 0 emptyJob) (readIn (suc (length bytes)) bytes 0 emptyJob)
+unfoldable pub jobReadOf : List ℕ → JobRead
+jobReadOf bytes = cond (ltb maxBytes (length bytes)) (readAt 31 0 emptyJob) (readIn (suc (length bytes)) bytes 0 emptyJob)
 
 -- what every job that was read holds, to its end or to the record at fault
 pub record Sound (j : Job) : Type 0 where
@@ -45,7 +45,7 @@ pub record Sound (j : Job) : Type 0 where
 
 -- what reading promises of its answer
 pub record JobReads (bytes : List ℕ) (answer : JobRead) : Type 0 where
-  pub answered : answer ≡ readOf bytes
+  pub answered : answer ≡ jobReadOf bytes
   pub sound : Sound (answer .job)
   -- a job without fault starts a script
   pub started : answer .number ≡ 0 → Started (answer .job)

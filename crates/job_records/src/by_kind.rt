@@ -18,8 +18,8 @@ use crate::kinds::RANGE;
 use crate::kinds::ROW;
 use crate::listing::shape_number;
 use crate::listing::when;
-use crate::words::long_in;
-use crate::words::word_in;
+use crate::numbers::long_in;
+use crate::numbers::word_in;
 use host_registers::Outcome;
 use isa::MmioAddress;
 use machine_state::Sequencer;
@@ -40,8 +40,8 @@ pub(crate) fn read_family(
     marks: &mut [u8; 512],
 ) -> StateRead
     requires { ⌜ byteAt (now rest) 0 ≡ family ⌝ }
-    ensures { λ r. ⌜ StateStored (now (rest .entry)) counts (stateFrom sequencer (now (code .entry)) (now (marks .entry))) (now (code .exit)) (now
-        (marks .exit)) r ⌝ }
+    ensures { λ r. ⌜ StateStored (now (rest .entry)) counts (stateFrom sequencer (now (code .entry)) (now (marks .entry)))
+        (now (code .exit)) (now (marks .exit)) r ⌝ }
 {
     let number = shape_number(rest, FAMILY, counts);
     if number != 0 {
@@ -100,8 +100,8 @@ pub(crate) fn read_write(
     marks: &mut [u8; 512],
 ) -> StateRead
     requires { ⌜ byteAt (now rest) 0 ≡ hostWrite ⌝ }
-    ensures { λ r. ⌜ StateStored (now (rest .entry)) counts (stateFrom sequencer (now (code .entry)) (now (marks .entry))) (now (code .exit)) (now
-        (marks .exit)) r ⌝ }
+    ensures { λ r. ⌜ StateStored (now (rest .entry)) counts (stateFrom sequencer (now (code .entry)) (now (marks .entry)))
+        (now (code .exit)) (now (marks .exit)) r ⌝ }
 {
     let number = shape_number(rest, HOST_WRITE, counts);
     if number != 0 {

@@ -19,8 +19,8 @@ use crate::kinds::HOST_WRITE;
 use crate::kinds::RANGE;
 use crate::kinds::ROW;
 use crate::kinds::kind_of;
-use crate::words::byte_at;
 use machine_state::state_from;
+use words::byte_at;
 
 // The most bytes that a job may have.
 const MAX_BYTES: usize = 32768;

@@ -4,7 +4,7 @@ mod contents;
 mod jobs;
 mod kinds;
 mod listing;
-mod words;
+mod numbers;
 
 pub use contents::Counts;
 pub use contents::Job;

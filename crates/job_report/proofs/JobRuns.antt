@@ -24,7 +24,7 @@ use Rattle.run.specs.Replay.{endingOf}
 use Rattle.run.specs.declared.answers.Ending.{Ending}
 use Rattle.run.proofs.InState.{full-follows}
 use Rattle.job_records.specs.Job.{knownOf, logIn}
-use Rattle.job_records.specs.Reader.{readOf, Sound}
+use Rattle.job_records.specs.Reader.{jobReadOf, Sound}
 use Rattle.job_records.specs.Started.{Started, executing, codeOf, marksOf, scriptIn}
 use Rattle.job_records.specs.declared.contents.Job.{Job}
 use Rattle.job_report.specs.Lines.{familyLine, passLine, writeLines, rowLines, endLine, statusLine}
@@ -82,8 +82,8 @@ module _ (j : Job) (sound : Sound j) (started : Started j) where
       ∙ ap (λ (r : Run). told (endingOf (slotOf (r .state) (executingSlot s) .mode)) r) (sym job-stepped)
 
 -- the report on a passed script tells its steps
-pub tells-steps : (bytes : List ℕ) {place : CodeAddress} {count writes clocks : ℕ} → Passed (readOf bytes) place count writes clocks
-    → (let j = readOf bytes .job in
+pub tells-steps : (bytes : List ℕ) {place : CodeAddress} {count writes clocks : ℕ} → Passed (jobReadOf bytes) place count writes clocks
+    → (let j = jobReadOf bytes .job in
     runLines j ≡ stepLines j → reportOf bytes ≡ familyLine (j .state .family) ++ (passLine (place .0) count writes clocks ++ stepLines j))
 unfolding reportOf jobLines
-tells-steps bytes p follows = rw (← follows) (simp (eq-eqb (readOf bytes .number) 0 (p .faultless), p .passes))
+tells-steps bytes p follows = rw (← follows) (simp (eq-eqb (jobReadOf bytes .number) 0 (p .faultless), p .passes))

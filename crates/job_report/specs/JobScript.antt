@@ -3,7 +3,7 @@ use Prim.Native.Nat.{ℕ}
 use Rattle.log.specs.Log.{logOf}
 use Rattle.machine_state.specs.declared.state.State.{State}
 use Rattle.host_registers.specs.Access.{readOf}
-use Rattle.host_registers.specs.declared.access.Reading.{Reading}
+use Rattle.host_registers.specs.declared.access.ReadAnswer.{ReadAnswer}
 use Rattle.machine_execution.specs.Execution.{executingSlot}
 use Rattle.audit_verdict.specs.Auditor.{auditOf}
 use Rattle.audit_verdict.specs.declared.verdicts.Verdict.{Verdict}
@@ -31,9 +31,9 @@ abbrev pub stepRun : Job → Run
 stepRun j = fullRun (executingSlot (j .state)) (logOf (clocksOf j) (knownOf j) (valuesOf j)) (j .state)
 
 -- the word that was read
-abbrev pub wordOf : Reading → ℕ
-wordOf (Reading.Word word) = word
-wordOf (Reading.Refused why) = 0
+abbrev pub wordOf : ReadAnswer → ℕ
+wordOf (ReadAnswer.Word word) = word
+wordOf (ReadAnswer.Refused why) = 0
 
 -- the register STATUS
 unfoldable pub statusOf : State → ℕ

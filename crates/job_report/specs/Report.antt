@@ -14,7 +14,7 @@ use Rattle.machine_execution.specs.Execution.{executingSlot}
 use Rattle.machine_state.specs.Slot.{slotOf, withSlot}
 use Rattle.machine_state.specs.declared.state.State.{State}
 use Rattle.job_records.specs.Job.{knownOf}
-use Rattle.job_records.specs.Reader.{readOf}
+use Rattle.job_records.specs.Reader.{jobReadOf}
 use Rattle.job_records.specs.declared.contents.Job.{Job}
 use Rattle.job_records.specs.declared.jobs.JobRead.{JobRead}
 use Rattle.job_report.specs.Lines.{refusedLine, familyLine, faultLine, passLine, writeLines, rowLines, endLine, statusLine}
@@ -38,7 +38,7 @@ jobLines j = familyLine (j .state .family) ++ verdictLines j (verdictOf j)
 
 -- a refused job prints only that
 unfoldable pub reportOf : List ℕ → List ℕ
-reportOf bytes = let read = readOf bytes in cond (eqb (read .number) 0) (jobLines (read .job)) (refusedLine (read .number) (read .at))
+reportOf bytes = let read = jobReadOf bytes in cond (eqb (read .number) 0) (jobLines (read .job)) (refusedLine (read .number) (read .at))
 
 -- what the machine's own steps give of a run: their writes, how the slot ended and where, and STATUS in the state that the last one returned
 unfoldable pub stepLines : Job → List ℕ
@@ -59,7 +59,7 @@ pub record Reports (bytes old new : List ℕ) (answer : ℕ) : Type 0 where
   -- so many of the lent bytes can be handed on as a part
   pub counted : (answer ≤ length new) × (answer ≡ length (take answer new))
   -- of every job without fault, whatever HWSQ_ENABLE and the flags are, the run is the machine's own
-  pub follows : readOf bytes .number ≡ 0 → runLines (readOf bytes .job) ≡ stepLines (readOf bytes .job)
+  pub follows : jobReadOf bytes .number ≡ 0 → runLines (jobReadOf bytes .job) ≡ stepLines (jobReadOf bytes .job)
   -- and of a passed script the lent bytes tell that run
-  pub tells : (place : CodeAddress) (count writes clocks : ℕ) → Passed (readOf bytes) place count writes clocks
-      → (let j = readOf bytes .job in take answer new ≡ familyLine (j .state .family) ++ (passLine (place .0) count writes clocks ++ stepLines j))
+  pub tells : (place : CodeAddress) (count writes clocks : ℕ) → Passed (jobReadOf bytes) place count writes clocks
+      → (let j = jobReadOf bytes .job in take answer new ≡ familyLine (j .state .family) ++ (passLine (place .0) count writes clocks ++ stepLines j))

@@ -6,7 +6,7 @@ use native.Mathlib.Omega.{arith}
 use lib.ListN.{length, take, drop, length-append, length-drop, length-map}
 use lib.Seq.{sets, sets-eq, take-at, drop-append-add, drop-drop}
 use Rattle.log.specs.Log.{Log}
-use Rattle.log.specs.Rows.{logIn, columnInto, rowsInto, withRowsAt, firstRows}
+use Rattle.log.specs.Rows.{logOfRows, columnInto, rowsInto, withRowsAt, firstRows}
 use Rattle.log.specs.declared.row.Row.{Row}
 
 -- ---- one column
@@ -59,7 +59,7 @@ pub record SameLengths (lent log : Log) : Type 0 where
   pub values : length (log .values) ≡ length (lent .values)
 
 module _ (lent : Log) (rows : List Row) where
-  pub rows-first : firstRows (length rows) (rowsInto lent rows) ≡ logIn rows
+  pub rows-first : firstRows (length rows) (rowsInto lent rows) ≡ logOfRows rows
   rows-first = rw (
     field-first (λ (r : Row). r .clocks) (lent .clocks) rows,
     field-first (λ (r : Row). r .known) (lent .known) rows,

@@ -7,18 +7,18 @@ use Rattle.log.specs.Log.{Log, logOf}
 use Rattle.log.specs.declared.row.Row.{Row}
 
 -- a log's columns
-abbrev pub clocksOf : List Row → List ℕ
-clocksOf rows = map (λ (r : Row). r .clocks) rows
+abbrev pub rowClocks : List Row → List ℕ
+rowClocks rows = map (λ (r : Row). r .clocks) rows
 
-abbrev pub knownOf : List Row → List ℕ
-knownOf rows = map (λ (r : Row). r .known) rows
+abbrev pub rowKnown : List Row → List ℕ
+rowKnown rows = map (λ (r : Row). r .known) rows
 
-abbrev pub valuesOf : List Row → List ℕ
-valuesOf rows = map (λ (r : Row). r .values) rows
+abbrev pub rowValues : List Row → List ℕ
+rowValues rows = map (λ (r : Row). r .values) rows
 
 -- the log of these rows
-abbrev pub logIn : List Row → Log
-logIn rows = logOf (clocksOf rows) (knownOf rows) (valuesOf rows)
+abbrev pub logOfRows : List Row → Log
+logOfRows rows = logOf (rowClocks rows) (rowKnown rows) (rowValues rows)
 
 -- a column at the beginning of what was lent, the rest as lent
 abbrev pub columnInto : List ℕ → List ℕ → List ℕ
@@ -26,7 +26,7 @@ columnInto lent column = column ++ drop (length column) lent
 
 -- rows at the beginning of the columns that were lent
 abbrev pub rowsInto : Log → List Row → Log
-rowsInto lent rows = logOf (columnInto (lent .clocks) (clocksOf rows)) (columnInto (lent .known) (knownOf rows)) (columnInto (lent .values) (valuesOf rows))
+rowsInto lent rows = logOf (columnInto (lent .clocks) (rowClocks rows)) (columnInto (lent .known) (rowKnown rows)) (columnInto (lent .values) (rowValues rows))
 
 -- the log in the first so many entries of columns
 abbrev pub firstRows : ℕ → Log → Log
@@ -34,4 +34,4 @@ firstRows n columns = logOf (take n (columns .clocks)) (take n (columns .known))
 
 -- columns with rows put from a place on
 abbrev pub withRowsAt : Log → ℕ → List Row → Log
-withRowsAt old at rows = logOf (sets (old .clocks) at (clocksOf rows)) (sets (old .known) at (knownOf rows)) (sets (old .values) at (valuesOf rows))
+withRowsAt old at rows = logOf (sets (old .clocks) at (rowClocks rows)) (sets (old .known) at (rowKnown rows)) (sets (old .values) at (rowValues rows))

@@ -1,7 +1,7 @@
 // From volts to a reading.
 use probe_floats::is_finite;
 ghost use mathlib.Core.Path.{_≡_};
-ghost use Rattle.probe_gates.specs.Reading.{Reads, atLevels};
+ghost use Rattle.probe_gates.specs.Reading.{GateReads, atLevels};
 
 // Levels are in volts.
 pub enum Gate {
@@ -20,7 +20,7 @@ pub enum Reading {
 impl Gate {
     // A dead gate, and volts that are NaN or infinite, are no reading.
     pub fn read(self, volts: f32) -> Reading
-        ensures { λ r. ⌜ Reads self volts r ⌝ }
+        ensures { λ r. ⌜ GateReads self volts r ⌝ }
     {
         if is_finite(volts) {
             match self {

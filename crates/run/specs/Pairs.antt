@@ -19,8 +19,8 @@ holding bytes =
     stateWith x (slotAtEntry 0 0 0) (record { values = 0; enables = 0 })
 
 -- so many steps of slot A under a log
-abbrev pub after : List ℕ → Log → ℕ → Run
-after bytes log n = runFor SlotName.A log n (begun (holding bytes))
+abbrev pub stepsUnder : List ℕ → Log → ℕ → Run
+stepsUnder bytes log n = runFor SlotName.A log n (begun (holding bytes))
 
 -- a write of 1
 abbrev pub one : ℕ → Write
@@ -46,25 +46,27 @@ abbrev pub twoEwaits : List ℕ
 twoEwaits = 0xe2 ∷ 0x01 ∷ 0x00 ∷ 0x00 ∷ 0x00 ∷ 0x5f ∷ 0x01 ∷ 0x01 ∷ 0x5f ∷ 0x02 ∷ 0x01 ∷ 0xe0 ∷ 0x00 ∷ 0x16 ∷ 0x10 ∷ 0x00 ∷ 0x7f ∷ []
 
 -- 64 clocks without a reading, and then 32 in which events 1 and 2 are 1
-abbrev pub unread : Log
-unread = logOf (64 ∷ 32 ∷ []) (0 ∷ 6 ∷ []) (0 ∷ 6 ∷ [])
+abbrev pub unreadLog : Log
+unreadLog = logOf (64 ∷ 32 ∷ []) (0 ∷ 6 ∷ []) (0 ∷ 6 ∷ [])
 
 -- the same with event 1 known as 1 in the first row; the value bit of event 0, which has no reading, means nothing
 abbrev pub eventFilled : Log
 eventFilled = logOf (64 ∷ 32 ∷ []) (2 ∷ 6 ∷ []) (3 ∷ 6 ∷ [])
 
 pub record Pairs : Type 0 where
-  pub valid : (validLog cutOff ≡ true) × (validLog rowAdded ≡ true) × (validLog unread ≡ true) × (validLog eventFilled ≡ true)
-  pub say-more : (SaysMore cutOff rowAdded) × (SaysMore unread eventFilled)
+  pub valid : (validLog cutOff ≡ true) × (validLog rowAdded ≡ true) × (validLog unreadLog ≡ true) × (validLog eventFilled ≡ true)
+  pub say-more : (SaysMore cutOff rowAdded) × (SaysMore unreadLog eventFilled)
   -- the ewait is unfinished after one write; with the row it ends at that row's start, and the other write comes after
-  pub unfinished : Unfinished SlotName.A (after oneEwait cutOff 5)
-  pub one-write : after oneEwait cutOff 5 .writes ≡ one 0x101600 ∷ []
-  pub two-writes : after oneEwait rowAdded 5 .writes ≡ one 0x101600 ∷ one 0x101604 ∷ []
-  pub goes-on : goneAt (rowAdded .clocks) (after oneEwait rowAdded 5 .place) ≡ 32
+  pub unfinished : Unfinished SlotName.A (stepsUnder oneEwait cutOff 5)
+  pub one-write : stepsUnder oneEwait cutOff 5 .writes ≡ one 0x101600 ∷ []
+  pub two-writes : stepsUnder oneEwait rowAdded 5 .writes ≡ one 0x101600 ∷ one 0x101604 ∷ []
+  pub goes-on : goneAt (rowAdded .clocks) (stepsUnder oneEwait rowAdded 5 .place) ≡ 32
   -- the first ewait ends after 64 clocks, and with the reading at once
-  pub first : (goneAt (unread .clocks) (after twoEwaits unread 2 .place) ≡ 64) × (goneAt (eventFilled .clocks) (after twoEwaits eventFilled 2 .place) ≡ 0)
+  pub first : (goneAt (unreadLog .clocks) (stepsUnder twoEwaits unreadLog 2 .place) ≡ 64) × (goneAt (eventFilled .clocks) (stepsUnder twoEwaits eventFilled 2
+      .place) ≡ 0)
   -- so the second takes none before and 64 now, and ends where it did
-  pub second : (goneAt (unread .clocks) (after twoEwaits unread 3 .place) ≡ 64) × (goneAt (eventFilled .clocks) (after twoEwaits eventFilled 3 .place) ≡ 64)
+  pub second : (goneAt (unreadLog .clocks) (stepsUnder twoEwaits unreadLog 3 .place) ≡ 64) × (goneAt (eventFilled .clocks) (stepsUnder twoEwaits eventFilled 3
+      .place) ≡ 64)
   -- neither run has an unfinished wait in the end, and both left the same state
-  pub finished : Unfinished SlotName.A (after twoEwaits unread 5) → ⊥
-  pub same-state : after twoEwaits eventFilled 5 .state ≡ after twoEwaits unread 5 .state
+  pub finished : Unfinished SlotName.A (stepsUnder twoEwaits unreadLog 5) → ⊥
+  pub same-state : stepsUnder twoEwaits eventFilled 5 .state ≡ stepsUnder twoEwaits unreadLog 5 .state

@@ -24,12 +24,12 @@ start l = l .before .before
 
 -- the byte that was looked at has its mark
 marked : (c : tie.Else1 Inv-loop μ-loop) → let l = looped c in getD (now (start l .args .marks)) (l .loop .i) 0 ≡ 1
-marked c = sym (c .before .mark .ensures) ∙ c .if1 .left
+marked c = sym (c .before .byte-at .ensures) ∙ c .if1 .left
 
 returns : tie.Need-returns Inv-loop μ-loop
 returns c =
     let l = c .before .before .before in
-    marked-not _ (l .loop .i) (l .loop .left) (omega arith) (λ e. c .if1 .taken (c .before .mark .ensures ∙ e)) ∙ l .loop .inv
+    marked-not _ (l .loop .i) (l .loop .left) (omega arith) (λ e. c .if1 .taken (c .before .byte-at .ensures ∙ e)) ∙ l .loop .inv
 
 add-i : tie.Need-add-i Inv-loop μ-loop
 add-i c =

@@ -51,7 +51,7 @@ returns-2 c =
     refused Unreadable.NotUploaded
     (simp (
       lt-ltb (a .place .0) (length r) (before-end lies),
-      ne-eqb (getD (now (a .marks)) (a .place .0) 0) 1 (λ e. c .if2 .taken (c .before .mark .ensures ∙ e)),
+      ne-eqb (getD (now (a .marks)) (a .place .0) 0) 1 (λ e. c .if2 .taken (c .before .byte-at .ensures ∙ e)),
     ))
 
 part-decode-end : tie.Need-part-decode-end
@@ -78,7 +78,7 @@ returns-3 c =
     let answered : c .check-marks .result ≡ fetchOf (a .family) (now (a .code)) (now (a .marks)) (a .place .0) =
     answer ∙ simp (
       lt-ltb (a .place .0) (length r) (before-end (in-ram k)),
-      eq-eqb (getD (now (a .marks)) (a .place .0) 0) 1 (sym (k .before .mark .ensures) ∙ k .if2 .left),
+      eq-eqb (getD (now (a .marks)) (a .place .0) 0) 1 (sym (k .before .byte-at .ensures) ∙ k .if2 .left),
       found,
     ) in
     record {

@@ -1,11 +1,11 @@
 -- Assumes nothing.
-use Rattle.capi_machine.specs.Images.{stateFrom}
+use Rattle.capi_machine.specs.Images.{imageState}
 use borrow.Author.Needs.{needs}
 use Rattle.capi_machine.proofs.pausing.hwsq_paused.Statement.{statement}
 use Rattle.capi_machine.proofs.pausing.hwsq_paused.Tie as tie
 
 returns : tie.Need-returns
-unfolding stateFrom
+unfolding imageState
 returns c = c .memory-paused .ensures
 
 pub hwsq-paused-spec : {M : Type 1} → statement M

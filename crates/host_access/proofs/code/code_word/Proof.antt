@@ -9,7 +9,7 @@ unfolding uploadedByte
 returns c =
     let d = c .before in
     let b = d .before .before in
-    simp (c .word-of .ensures, b .before .uploaded-byte .ensures, b .uploaded-byte2 .ensures, d .before .uploaded-byte3 .ensures, d .uploaded-byte4 .ensures)
+    simp (c .word .ensures, b .before .uploaded-byte .ensures, b .uploaded-byte2 .ensures, d .before .uploaded-byte3 .ensures, d .uploaded-byte4 .ensures)
 
 pub code-word-spec : {M : Type 1} → statement M
 code-word-spec =

@@ -7,7 +7,7 @@ use Rattle.isa_reader.proofs.operands.operand16.Tie as tie
 returns : tie.Need-returns
 returns c =
     let first = c .before .before in
-    simp (c .word16 .ensures, first .byte .ensures, c .before .byte2 .ensures) (two (first .before .before .args .bytes .now))
+    simp (c .half-word .ensures, first .byte-at .ensures, c .before .byte-at2 .ensures) (two (first .before .before .args .bytes .now))
 
 pub operand16-spec : {M : Type 1} → statement M
 operand16-spec = tie.close (tie.spec (λ c κs. search needs) (λ c κs. search needs) (λ c κs. search needs) returns)

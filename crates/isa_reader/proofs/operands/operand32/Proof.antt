@@ -9,7 +9,7 @@ returns c =
     let third = c .before .before in
     let second = third .before in
     let first = second .before in
-    simp (c .word32 .ensures, first .byte .ensures, second .byte2 .ensures, third .byte3 .ensures, c .before .byte4 .ensures)
+    simp (c .word .ensures, first .byte-at .ensures, second .byte-at2 .ensures, third .byte-at3 .ensures, c .before .byte-at4 .ensures)
     (four (first .before .before .args .bytes .now))
 
 pub operand32-spec : {M : Type 1} → statement M

@@ -12,7 +12,7 @@ use Rattle.machine_state.specs.declared.sequencer.Sequencer.{Sequencer}
 use Rattle.run.specs.Replay.{progressOf}
 use Rattle.run.specs.declared.answers.Progress.{Progress}
 use Rattle.job_records.specs.Job.{knownOf, logIn}
-use Rattle.job_records.specs.Reader.{readOf}
+use Rattle.job_records.specs.Reader.{jobReadOf}
 use Rattle.job_records.specs.declared.contents.Job.{Job}
 use Rattle.job_records.specs.declared.jobs.JobRead.{JobRead}
 use Rattle.job_report.specs.Lines.{refusedLine, writeLines, rowLines}
@@ -31,7 +31,7 @@ use Rattle.job_output.proofs.reports.report.Tie as tie
 
 -- the defined report, at the start of the lent bytes
 reports : (bytes old : List ℕ) {t : List ℕ} {r : ℕ} {new : List ℕ} → t ≡ reportOf bytes → length t ≤ 65536 → length old ≡ 65536 → Stored old 0 t r new
-    → (readOf bytes .number ≡ 0 → runLines (readOf bytes .job) ≡ stepLines (readOf bytes .job)) → Reports bytes old new r
+    → (jobReadOf bytes .number ≡ 0 → runLines (jobReadOf bytes .job) ≡ stepLines (jobReadOf bytes .job)) → Reports bytes old new r
 reports bytes old e fits size h follows =
     let room : length (reportOf bytes) ≤ length old = subst (λ (t : List ℕ). length t ≤ length old) e (omega arith) in
     let stored = stored-as old 0 e h in
@@ -45,11 +45,11 @@ reports bytes old e fits size h follows =
       tells = λ place count writes clocks p. told ∙ tells-steps bytes p (follows (p .faultless));
     }
 
-refusal-is : (bytes : List ℕ) (read : JobRead) → read ≡ readOf bytes → (read .number ≡ 0 → ⊥) → refusedLine (read .number) (read .at) ≡ reportOf bytes
+refusal-is : (bytes : List ℕ) (read : JobRead) → read ≡ jobReadOf bytes → (read .number ≡ 0 → ⊥) → refusedLine (read .number) (read .at) ≡ reportOf bytes
 unfolding reportOf
 refusal-is bytes read e n = rw (← e) (simp (ne-eqb (read .number) 0 n))
 
-job-is : (bytes : List ℕ) (read : JobRead) → read ≡ readOf bytes → read .number ≡ 0 → jobLines (read .job) ≡ reportOf bytes
+job-is : (bytes : List ℕ) (read : JobRead) → read ≡ jobReadOf bytes → read .number ≡ 0 → jobLines (read .job) ≡ reportOf bytes
 unfolding reportOf
 job-is bytes read e z = rw (← e) (simp (eq-eqb (read .number) 0 z))
 

@@ -3,7 +3,7 @@ use Prim.Native.Nat.{ℕ}
 use mathlib.Core.Path.{_≡_, ap, sym, subst, _∙_}
 use native.Mathlib.Omega.{arith}
 use borrow.Author.Tests.{lt-ltb, le-ltb}
-use Rattle.job_records.specs.Reader.{readOf, Sound}
+use Rattle.job_records.specs.Reader.{jobReadOf, Sound}
 use Rattle.job_records.specs.declared.jobs.JobRead.{JobRead}
 use Rattle.job_records.specs.Job.{emptyJob}
 use Rattle.job_records.proofs.Growth.{going-empty, going-sound}
@@ -15,7 +15,7 @@ late : _≡_ {A = ℕ} 31 0 → ⊥
 late e = omega arith
 
 returns : tie.Need-returns
-unfolding readOf
+unfolding jobReadOf
 returns c = record {
   answered = simp (lt-ltb _ _ (c .before .before .if1 .taken), c .read-at .ensures, c .before .empty-job .ensures);
   sound = subst (λ (r : JobRead). Sound (r .job)) (sym (c .read-at .ensures))
@@ -24,7 +24,7 @@ returns c = record {
 }
 
 returns-2 : tie.Need-returns-2
-unfolding readOf
+unfolding jobReadOf
 returns-2 c = record {
   answered = c .read-records .ensures .answered ∙ simp (le-ltb _ _ (c .before .if1 .left));
   sound = c .read-records .ensures .sound;

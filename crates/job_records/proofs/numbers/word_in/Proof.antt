@@ -1,12 +1,12 @@
 -- Assumes nothing.
 use Rattle.job_records.specs.Words.{wordAt}
 use borrow.Author.Needs.{needs}
-use Rattle.job_records.proofs.words.word_in.Statement.{statement}
-use Rattle.job_records.proofs.words.word_in.Tie as tie
+use Rattle.job_records.proofs.numbers.word_in.Statement.{statement}
+use Rattle.job_records.proofs.numbers.word_in.Tie as tie
 
 returns : tie.Need-returns
 unfolding wordAt
-returns c = c .word-of .ensures
+returns c = c .word .ensures
 
 pub word-in-spec : {M : Type 1} → statement M
 word-in-spec =
