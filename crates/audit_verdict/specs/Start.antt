@@ -4,7 +4,7 @@ use mathlib.Core.Path.{_≡_}
 use mathlib.Core.Bool.{true, false}
 use lib.ListN.{length, getD}
 use lib.Dec.{eqb}
-use Rattle.families.specs.Family.{codeSize}
+use Rattle.families.specs.Family.{codeSize, maxCode}
 use Rattle.machine_flags.specs.Flags.{pausedOf}
 use Rattle.machine_state.specs.Slot.{hasSlot, otherOf, slotOf}
 use Rattle.machine_state.specs.declared.slots.Mode.{Mode}
@@ -22,9 +22,9 @@ pub record SlotInType (slot : Slot) : Type 0 where
 
 pub record StateInType (s : State) : Type 0 where
   pub family : s .family < 2 ^ 8
-  pub code-size : length (s .code) ≡ 512
+  pub code-size : length (s .code) ≡ maxCode
   pub code-bytes : (i : ℕ) → getD (s .code) i 0 < 2 ^ 8
-  pub marks-size : length (s .marks) ≡ 512
+  pub marks-size : length (s .marks) ≡ maxCode
   pub marks-bytes : (i : ℕ) → getD (s .marks) i 0 < 2 ^ 8
   pub values : s .flags .values < 2 ^ 32
   pub enables : s .flags .enables < 2 ^ 32

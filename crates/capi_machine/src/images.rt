@@ -29,8 +29,8 @@ pub struct StateImage {
     pub entries_high: u32,
     pub a: SlotImage,
     pub b: SlotImage,
-    pub code: [u8; 512],
-    pub marks: [u8; 512],
+    pub code: [u8; families::MAX_CODE],
+    pub marks: [u8; families::MAX_CODE],
 }
 
 // Numbers that name no mode stand for a slot that nothing moves but an abort.

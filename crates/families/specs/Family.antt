@@ -15,9 +15,13 @@ knownFamily f = within 1 f 4
 unfoldable pub byFamily : ℕ → ℕ → ℕ → ℕ → ℕ → ℕ
 byFamily f one two three four = cond (eqb f 1) one (cond (eqb f 2) two (cond (eqb f 3) three (cond (eqb f 4) four 0)))
 
+-- the most bytes that a family's code RAM has
+abbrev pub maxCode : ℕ
+maxCode = 512
+
 -- bytes of code RAM
 abbrev pub codeSize : ℕ → ℕ
-codeSize f = byFamily f 64 128 256 512
+codeSize f = byFamily f 64 128 256 maxCode
 
 -- slots A and B, or A alone
 abbrev pub slotCount : ℕ → ℕ

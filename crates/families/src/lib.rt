@@ -3,6 +3,9 @@
 ghost use mathlib.Core.Path.{_≡_};
 ghost use Rattle.families.specs.Family.{knownFamily, codeSize, slotCount, unknownHangs, pausesMemory, highestEntry, byFamily, within};
 
+// The most bytes that a family's code RAM has.
+pub const MAX_CODE: usize = 512;
+
 // Whether the number names a family.
 pub fn known_family(family: u8) -> bool
     ensures { λ r. ⌜ r ≡ knownFamily family ⌝ }
@@ -33,7 +36,7 @@ fn by_family(family: u8, one: usize, two: usize, three: usize, four: usize) -> u
 pub fn code_size(family: u8) -> usize
     ensures { λ r. ⌜ r ≡ codeSize family ⌝ }
 {
-    by_family(family, 64, 128, 256, 512)
+    by_family(family, 64, 128, 256, MAX_CODE)
 }
 
 // How many execution slots the family has: A and B, or A alone.

@@ -34,8 +34,8 @@ fn after_write(
     mut sequencer: Sequencer,
     register: Register,
     word: u32,
-    code: &mut [u8; 512],
-    marks: &mut [u8; 512],
+    code: &mut [u8; families::MAX_CODE],
+    marks: &mut [u8; families::MAX_CODE],
 ) -> Sequencer
     requires { ⌜ InRoom register ⌝ }
     ensures { λ r. ⌜ stateFrom r (now (code .exit)) (now (marks .exit))
@@ -103,8 +103,8 @@ pub fn write(
     mut sequencer: Sequencer,
     address: MmioAddress,
     word: u32,
-    code: &mut [u8; 512],
-    marks: &mut [u8; 512],
+    code: &mut [u8; families::MAX_CODE],
+    marks: &mut [u8; families::MAX_CODE],
 ) -> Written
     ensures { λ r. ⌜ WritesInPlace (stateFrom sequencer (now (code .entry)) (now (marks .entry))) address word
         (accessOf r (now (code .exit)) (now (marks .exit))) ⌝ }

@@ -8,7 +8,12 @@ use machine_state::State;
 use words::word;
 
 // Uploads four bytes from a place on, and marks them.
-pub(crate) fn upload(code: &mut [u8; 512], marks: &mut [u8; 512], at: usize, word: u32)
+pub(crate) fn upload(
+    code: &mut [u8; families::MAX_CODE],
+    marks: &mut [u8; families::MAX_CODE],
+    at: usize,
+    word: u32,
+)
     requires { ⌜ at + 4 ≤ 512 ⌝ }
     ensures { λ _. ⌜ now (code .exit) ≡ sets (now (code .entry)) at (leBytes 4 word) ⌝ }
     ensures { λ _. ⌜ now (marks .exit) ≡ sets (now (marks .entry)) at fourMarks ⌝ }
@@ -27,7 +32,7 @@ pub(crate) fn upload(code: &mut [u8; 512], marks: &mut [u8; 512], at: usize, wor
 }
 
 // A byte that was uploaded, and 0 where none was.
-fn uploaded_byte(code: [u8; 512], marks: [u8; 512], at: usize) -> u8
+fn uploaded_byte(code: [u8; families::MAX_CODE], marks: [u8; families::MAX_CODE], at: usize) -> u8
     requires { ⌜ at + 1 ≤ 512 ⌝ }
     ensures { λ r. ⌜ r ≡ byteIn code marks at ⌝ }
 {

@@ -54,7 +54,9 @@ fn fresh_outcome(family: u8) -> Outcome
 pub fn fresh_state(family: u8) -> Access
     ensures { λ r. ⌜ Begins family r ⌝ }
 {
-    let state = state_from(fresh_sequencer(family), [0u8; 512], [0u8; 512]);
+    let code = [0u8; families::MAX_CODE];
+    let marks = [0u8; families::MAX_CODE];
+    let state = state_from(fresh_sequencer(family), code, marks);
     let outcome = fresh_outcome(family);
     Access { state, outcome }
 }

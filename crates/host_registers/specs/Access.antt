@@ -4,7 +4,7 @@ use mathlib.Core.Bool.{Bool, false, cond, not, _&&_, _||_}
 use mathlib.Core.List.{List}
 use lib.Dec.{eqb}
 use lib.ListN.{replicate}
-use Rattle.families.specs.Family.{knownFamily}
+use Rattle.families.specs.Family.{knownFamily, maxCode}
 use Rattle.isa.specs.declared.addresses.MmioAddress.{MmioAddress}
 use Rattle.machine_flags.specs.Flags.{flagsWord0, flagsWord1, flagsFromWords}
 use Rattle.machine_state.specs.Slot.{blankSlot, withSlot}
@@ -39,8 +39,8 @@ accessOf w code marks = record { state = stateFrom (w .sequencer) code marks; ou
 unfoldable pub blankState : ℕ → State
 blankState family = record {
   family = family;
-  code = replicate 512 0;
-  marks = replicate 512 0;
+  code = replicate maxCode 0;
+  marks = replicate maxCode 0;
   flags = record { values = 0; enables = 0 };
   enable = false;
   «override_mode» = false;

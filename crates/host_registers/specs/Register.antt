@@ -2,7 +2,7 @@
 use Prim.Native.Nat.{ℕ, _+_, _-_, _%_, _≤_}
 use mathlib.Core.Bool.{Bool, true, false, cond, _&&_}
 use lib.Dec.{ltb, eqb}
-use Rattle.families.specs.Family.{codeSize, within}
+use Rattle.families.specs.Family.{codeSize, within, maxCode}
 use Rattle.isa.specs.declared.addresses.MmioAddress.{MmioAddress}
 use Rattle.host_registers.specs.declared.registers.Register.{Register}
 
@@ -68,6 +68,6 @@ InRoom Register.Trigger = Unit {0}
 InRoom Register.Flags0 = Unit {0}
 InRoom Register.Flags1 = Unit {0}
 InRoom Register.EntryPointHigh = Unit {0}
-InRoom (Register.Code at) = at .0 + 4 ≤ 512
+InRoom (Register.Code at) = at .0 + 4 ≤ maxCode
 InRoom Register.Events = Unit {0}
 InRoom Register.Unlisted = Unit {0}

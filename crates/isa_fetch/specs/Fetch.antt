@@ -6,7 +6,7 @@ use mathlib.Core.Bool.{Bool, true, cond, not, _&&_}
 use mathlib.Core.List.{List}
 use lib.ListN.{length, getD, take, drop}
 use lib.Dec.{leb, ltb, eqb}
-use Rattle.families.specs.Family.{codeSize}
+use Rattle.families.specs.Family.{codeSize, maxCode}
 use Rattle.isa.specs.Opcode.{opcodeAt, sizeOf, isUnknownOpcode}
 use Rattle.isa.specs.Reader.{decodeOf, decodedNumber}
 use Rattle.isa.specs.Writer.{operandsFit}
@@ -57,7 +57,7 @@ reasonOf (Decoded.Refused why) = why
 
 -- the place past an opcode of one byte, which lies in a code RAM of 512 bytes at most
 abbrev pub pastOpcode : ℕ → ℕ
-pastOpcode at = cond (ltb at 512) (at + 1) at
+pastOpcode at = cond (ltb at maxCode) (at + 1) at
 
 -- a fetched instruction lies in the code RAM, takes 1 to 5 bytes, and has no length above 3, shift above 15 or flag above 31
 abbrev pub Inside : ℕ → List ℕ → ℕ → Decoded → Type 0

@@ -7,9 +7,6 @@ use isa::Decoded;
 use refusals::Unreadable;
 use words::byte_at;
 
-// The most bytes that a family's code RAM has.
-const MAX_CODE: usize = 512;
-
 // Whether each of the n bytes from a place on is marked as uploaded.
 fn all_marked(marks: &[u8], at: usize, n: usize) -> bool
     ensures { λ r. ⌜ r ≡ allMarked n (now (marks .entry)) at ⌝ }
@@ -84,7 +81,7 @@ pub fn past_opcode(place: CodeAddress) -> CodeAddress
     ensures { λ r. ⌜ r ≡ record { 0 = pastOpcode (place .0) } ⌝ }
 {
     let at = place.0;
-    if at < MAX_CODE {
+    if at < families::MAX_CODE {
         CodeAddress(at + 1)
     } else {
         place

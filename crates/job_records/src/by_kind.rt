@@ -36,8 +36,8 @@ pub(crate) fn read_family(
     rest: &[u8],
     counts: Counts,
     sequencer: Sequencer,
-    code: &mut [u8; 512],
-    marks: &mut [u8; 512],
+    code: &mut [u8; families::MAX_CODE],
+    marks: &mut [u8; families::MAX_CODE],
 ) -> StateRead
     requires { ⌜ byteAt (now rest) 0 ≡ family ⌝ }
     ensures { λ r. ⌜ StateStored (now (rest .entry)) counts (stateFrom sequencer (now (code .entry)) (now (marks .entry)))
@@ -54,8 +54,8 @@ pub(crate) fn read_family(
             sequencer,
         };
     }
-    *code = [0u8; 512];
-    *marks = [0u8; 512];
+    *code = [0u8; families::MAX_CODE];
+    *marks = [0u8; families::MAX_CODE];
     StateRead {
         number: 0,
         sequencer: host_fresh::fresh_sequencer(family),
@@ -96,8 +96,8 @@ pub(crate) fn read_write(
     rest: &[u8],
     counts: Counts,
     sequencer: Sequencer,
-    code: &mut [u8; 512],
-    marks: &mut [u8; 512],
+    code: &mut [u8; families::MAX_CODE],
+    marks: &mut [u8; families::MAX_CODE],
 ) -> StateRead
     requires { ⌜ byteAt (now rest) 0 ≡ hostWrite ⌝ }
     ensures { λ r. ⌜ StateStored (now (rest .entry)) counts (stateFrom sequencer (now (code .entry)) (now (marks .entry)))

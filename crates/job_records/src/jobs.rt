@@ -58,8 +58,8 @@ fn read_records(bytes: &[u8]) -> JobRead
     let mut counts = no_counts();
     let mut bounds = [0u32; 128];
     let mut sequencer = host_fresh::fresh_sequencer(0);
-    let mut code = [0u8; 512];
-    let mut marks = [0u8; 512];
+    let mut code = [0u8; families::MAX_CODE];
+    let mut marks = [0u8; families::MAX_CODE];
     let mut clocks = [0u64; 1024];
     let mut known = [0u32; 1024];
     let mut values = [0u32; 1024];

@@ -35,7 +35,11 @@ pub fn sequencer_of(state: State) -> Sequencer
 }
 
 // The state of a sequencer with this code RAM.
-pub fn state_from(sequencer: Sequencer, code: [u8; 512], marks: [u8; 512]) -> State
+pub fn state_from(
+    sequencer: Sequencer,
+    code: [u8; families::MAX_CODE],
+    marks: [u8; families::MAX_CODE],
+) -> State
     ensures { λ r. ⌜ r ≡ stateFrom sequencer code marks ⌝ }
 {
     let flags = sequencer.flags;

@@ -7,9 +7,9 @@ use machine_flags::Flags;
 
 pub struct State {
     pub family: u8,
-    pub code: [u8; 512],
+    pub code: [u8; families::MAX_CODE],
     // 1 where the byte was uploaded
-    pub marks: [u8; 512],
+    pub marks: [u8; families::MAX_CODE],
     pub flags: Flags,
     // register 1098: HWSQ_ENABLE and override mode
     pub enable: bool,

@@ -5,7 +5,7 @@ use mathlib.Core.Bool.{true, cond, not}
 use mathlib.Core.List.{List, [], _∷_, _++_, IsPrefix}
 use lib.ListN.{length, take, drop}
 use lib.Dec.{leb}
-use Rattle.families.specs.Family.{codeSize}
+use Rattle.families.specs.Family.{codeSize, maxCode}
 use Rattle.refusals.specs.Number.{unreplayableNumber}
 use Rattle.refusals.specs.declared.refusals.Unreadable.{Unreadable}
 use Rattle.refusals.specs.declared.refusals.Unreplayable.{Unreplayable}
@@ -142,7 +142,7 @@ module _ (x : Scene) (slot : Slot) (flags : Flags) where
   -- a script that fits is held by a state, whose arrays have room for 512 bytes
   abbrev pub IsHeld : Type 0
   IsHeld = scriptFits (slotScript x slot) ≡ true
-      → (s : State) × (length (s .code) ≡ 512) × (length (s .marks) ≡ 512) × (Holds x slot flags SlotName.A s)
+      → (s : State) × (length (s .code) ≡ maxCode) × (length (s .marks) ≡ maxCode) × (Holds x slot flags SlotName.A s)
 
   -- what holds of a run that ended, in every state that holds the slot, and of the lent entries, old and new
   pub record RunEnds (old new : List ℕ) (last : Progress) : Type 0 where
