@@ -28,7 +28,7 @@ module _ {gate low high gain offset raw : ℕ} where
       let t = le-ltb 2 gate below in
       record {
         answered =
-            told ∙ ap (λ (a : Sampled). sampledReply a volts) (q .answer)
+            told ∙ ap (λ (a : Sampled). sampledReply a volts) (q .answered)
             ∙ rw t (ap (sampledReply (sampleOf (gateOf gate low high) (calibrationOf gain offset) raw)) w);
-        samples = λ h. subst (Samples (gateOf gate low high) (calibrationOf gain offset) raw) (q .answer) q;
+        samples = λ h. subst (Samples (gateOf gate low high) (calibrationOf gain offset) raw) (q .answered) q;
       }

@@ -1,6 +1,6 @@
 // Code RAM as the host sees it: words of four bytes, the lowest byte first.
 ghost use mathlib.Core.Path.{_≡_};
-ghost use Prim.Native.Nat.{_+_, _*_, _≤_};
+ghost use Prim.Native.Nat.{_+_, _≤_};
 ghost use lib.Seq.{sets};
 ghost use Rattle.isa.specs.Writer.{leBytes};
 ghost use Rattle.host_registers.specs.Code.{byteIn, codeWord, fourMarks};

@@ -61,7 +61,7 @@ pub puts : (d : List ℕ) (at : ℕ) (t : List ℕ) (r : ℕ) (e : List ℕ)
     → Puts d at t r e
 puts d at t r e size p q =
     record {
-      answer = p;
+      answered = p;
       contents = q;
       stored = λ room. (p ∙ after-room d at t room, q);
       joins = λ u both. join u both;
@@ -77,7 +77,7 @@ puts d at t r e size p q =
 
 -- the same text by another name
 pub puts-as : (d : List ℕ) (at : ℕ) (t u : List ℕ) (r : ℕ) (e : List ℕ) → t ≡ u → Puts d at t r e → Puts d at u r e
-puts-as d at t u r e q p = puts d at u r e (p .size) (p .answer ∙ ap (after d at) q) (p .contents ∙ ap (put d at) q)
+puts-as d at t u r e q p = puts d at u r e (p .size) (p .answered ∙ ap (after d at) q) (p .contents ∙ ap (put d at) q)
 
 -- t put at `at`, and u at the place that this answered: room is asked of the whole alone
 pub then : (d : List ℕ) (at : ℕ) (t u : List ℕ) {a r : ℕ} {m e : List ℕ}

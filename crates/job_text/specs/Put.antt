@@ -25,7 +25,7 @@ Stored d at t r e = at + length t ≤ length d → (r ≡ at + length t) × (e �
 
 -- t was put into d at `at`: the answer is r, and e is the buffer then
 pub record Puts (d : List ℕ) (at : ℕ) (t : List ℕ) (r : ℕ) (e : List ℕ) : Type 0 where
-  pub answer : r ≡ after d at t
+  pub answered : r ≡ after d at t
   pub contents : e ≡ put d at t
   pub stored : Stored d at t r e
   -- another text put right after it makes one text with it, where both have room

@@ -40,7 +40,7 @@ again bits small false h = toBits-ofBits binary32 bits small (subst (λ (t : Boo
 
 pub from-pattern : (bits : ℕ) (r : Float) → bits < 2 * top binary32 → r ≡ floatOf bits → FromPattern bits r
 from-pattern bits r small answer = record {
-  answer = answer;
+  answered = answer;
   back = rw (answer, nanBits-is binary32 bits) (again bits small (isNan (floatOf bits)) refl);
 }
 
@@ -52,7 +52,7 @@ same x held false h = ofBits-toBits binary32 x (subst T (sym held) tt)
 
 pub to-pattern : (x : Float) (r : ℕ) → fits binary32 x ≡ true → r ≡ patternOf x → ToPattern x r
 to-pattern x r held answer = record {
-  answer = answer;
+  answered = answer;
   back = rw answer (same x held (isNan x) refl);
 }
 

@@ -16,7 +16,7 @@ two-roundings = refl
 
 pub calibrates : (calibration : Calibration) (raw r : Float) → r ≡ voltsOf calibration raw → Calibrates calibration raw r
 calibrates calibration raw r answer = record {
-  answer = answer;
+  answered = answer;
   lost = λ h. answer ∙ rw h (nan-volts calibration);
   apart = λ h g o. answer ∙ rw (h, g, o) two-roundings;
 }

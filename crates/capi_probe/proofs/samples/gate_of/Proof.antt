@@ -5,10 +5,10 @@ use Rattle.capi_probe.proofs.samples.gate_of.Statement.{statement}
 use Rattle.capi_probe.proofs.samples.gate_of.Tie as tie
 
 returns : tie.Need-returns
-returns c = simp (c .match .keys1, c .before .before .float-of .ensures .answer, c .before .float-of2 .ensures .answer)
+returns c = simp (c .match .keys1, c .before .before .float-of .ensures .answered, c .before .float-of2 .ensures .answered)
 
 returns-2 : tie.Need-returns-2
-returns-2 c = simp (c .match .keys2, c .before .before .float-of .ensures .answer, c .before .float-of2 .ensures .answer)
+returns-2 c = simp (c .match .keys2, c .before .before .float-of .ensures .answered, c .before .float-of2 .ensures .answered)
 
 returns-3 : tie.Need-returns-3
 returns-3 c =

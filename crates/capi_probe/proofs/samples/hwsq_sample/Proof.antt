@@ -14,9 +14,9 @@ returns-2 c =
     let volts = gated .before in
     let floats = volts .before in
     sample-passed (floats .before .before .before .if1 .left) (gated .gate-of .ensures)
-    (simp (floats .before .before .float-of .ensures .answer, floats .before .float-of2 .ensures .answer))
+    (simp (floats .before .before .float-of .ensures .answered, floats .before .float-of2 .ensures .answered))
     (c .before .before .sample .ensures)
-    (c .before .pattern-of .ensures .answer ∙ simp (volts .volts .ensures .answer, floats .float-of3 .ensures .answer))
+    (c .before .pattern-of .ensures .answered ∙ simp (volts .volts .ensures .answered, floats .float-of3 .ensures .answered))
     (c .sampled-reply .ensures)
 
 pub hwsq-sample-spec : {M : Type 1} → statement M

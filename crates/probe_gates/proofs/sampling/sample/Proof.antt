@@ -11,17 +11,17 @@ returns c =
     let test = passed .before in
     samples-of (test .before .args .gate) (test .before .args .calibration) (test .before .args .raw) _
     (simp (
-      sym (test .usable .ensures .answer) ∙ passed .if1 .taken,
-      c .read .ensures .answer,
-      c .before .volts .ensures .answer,
-      c .before .before .float-of .ensures .answer,
+      sym (test .usable .ensures .answered) ∙ passed .if1 .taken,
+      c .read .ensures .answered,
+      c .before .volts .ensures .answered,
+      c .before .before .float-of .ensures .answered,
     ))
 
 returns-2 : tie.Need-returns-2
 returns-2 c =
     let test = c .before in
     samples-of (test .before .args .gate) (test .before .args .calibration) (test .before .args .raw) _
-    (rw (sym (test .usable .ensures .answer) ∙ c .if1 .left))
+    (rw (sym (test .usable .ensures .answered) ∙ c .if1 .left))
 
 pub sample-spec : {M : Type 1} → statement M
 sample-spec =
