@@ -28,12 +28,12 @@ toldReply verdict place count clocks shown = record {
   writes = shown .writes;
 }
 
-abbrev pub shownReply : Verdict → Shown → WitnessReply
-shownReply (Verdict.Pass place count writes clocks) shown = toldReply 0 place count clocks shown
-shownReply (Verdict.Fault fault place) shown = toldReply (faultNumber fault) place 0 0 shown
+abbrev pub verdictReply : Verdict → Shown → WitnessReply
+verdictReply (Verdict.Pass place count writes clocks) shown = toldReply 0 place count clocks shown
+verdictReply (Verdict.Fault fault place) shown = toldReply (faultNumber fault) place 0 0 shown
 
 abbrev pub shownReply : Shown → WitnessReply
-shownReply shown = shownReply (shown .verdict) shown
+shownReply shown = verdictReply (shown .verdict) shown
 
 -- refused: there is no verdict, and 0 would be a pass
 abbrev pub unshownReply : ℕ → WitnessReply
