@@ -134,7 +134,7 @@ module _ (x : Scene) (slot : Slot) (flags : Flags) where
 
   -- ---- that it is the machine's own run
 
-  -- in every state that holds the slot so many steps are so many steps of it, and all else of the state stays
+  -- in every state that holds the slot so many steps of the machine are so many of the slot's own, and all else of the state stays
   abbrev pub FollowsSteps : Type 0
   FollowsSteps = (name : SlotName) (s : State) → Holds x slot flags name s → validLog (x .log) ≡ true
       → (n : ℕ) → runFor name (x .log) n (begun s) ≡ inState s name (slotRunFor x n (slotBegun slot flags))
