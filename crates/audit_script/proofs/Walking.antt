@@ -17,6 +17,7 @@ use Rattle.refusals.specs.declared.refusals.Fault.{Fault}
 use Rattle.audit_verdict.specs.declared.verdicts.Judgement.{Judgement}
 use Rattle.audit_verdict.specs.declared.verdicts.Knowledge.{Knowledge}
 use Rattle.audit_verdict.specs.declared.verdicts.Verdict.{Verdict}
+use Rattle.audit_verdict.proofs.FirstFault.{walk-fine, walk-exit, walk-bad, walk-none}
 
 pub wait-small : (i : Instruction) → waitLength (actionOf i) ≤ 103079215104
 wait-small (Instruction.Wait l s) = wait-most l s
@@ -39,25 +40,6 @@ poke-small (Action.Poke p x) = omega arith
 poke-small Action.Exit = omega arith
 
 module _ (x : Script) (ranges : List ℕ) where
-  module _ (left at : ℕ) (k : Knowledge) where
-    module _ (i : Instruction) (n : ℕ) (f : fetchAt x at ≡ Decoded.Instruction i n) where
-      walk-fine : judgeOf (x .family) ranges (actionOf i) k ≡ Judgement.Fine
-          → verdictIn (suc left) x ranges at k ≡ verdictIn left x ranges (at + n) (knowNext (actionOf i) k)
-      unfolding verdictIn
-      walk-fine j = rw (f, j, verdictIn)
-
-      walk-exit : judgeOf (x .family) ranges (actionOf i) k ≡ Judgement.Exit → verdictIn (suc left) x ranges at k ≡ passAt at k
-      unfolding verdictIn
-      walk-exit j = rw (f, j, verdictIn)
-
-      walk-bad : (fault : Fault) → judgeOf (x .family) ranges (actionOf i) k ≡ Judgement.Bad fault → verdictIn (suc left) x ranges at k ≡ faultAt fault at
-      unfolding verdictIn
-      walk-bad fault j = rw (f, j, verdictIn)
-
-    walk-none : (why : Unreadable) → fetchAt x at ≡ Decoded.Refused why → verdictIn (suc left) x ranges at k ≡ faultAt (faultOf why) at
-    unfolding verdictIn
-    walk-none why f = rw (f, verdictIn)
-
   -- past the code RAM no instruction is left to count on, and none is found
   none-left : (left at : ℕ) (k : Knowledge) (why : Unreadable) → codeSize (x .family) ≤ at + left → fetchAt x at ≡ Decoded.Refused why
       → verdictIn left x ranges at k ≡ faultAt (faultOf why) at
@@ -65,7 +47,7 @@ module _ (x : Script) (ranges : List ℕ) where
   none-left zero at k why h f =
       let e : Unreadable.Empty ≡ why = cc (fetch-past (x .family) (x .code) (x .marks) at (omega arith)) in
       ap (λ (w : Unreadable). faultAt (faultOf w) at) e
-  none-left (suc left) at k why h f = walk-none left at k why f
+  none-left (suc left) at k why h f = walk-none x ranges left at k why f
 
   -- the loop at a place: the verdict from here is the walk's, and the counts are small
   pub record Going (at : ℕ) (k : Knowledge) : Type 0 where

@@ -1,4 +1,4 @@
--- Demand 3: the one claim about the defined verdict, of code whose elements are bytes; and its number. Assumes nothing.
+-- Demand 3: the one claim about the defined verdict, of code whose elements are bytes. Assumes nothing.
 use Prim.Native.Nat.{ℕ, suc, _+_, _<_, _^_}
 use mathlib.Core.Path.{_≡_, refl, sym, ap, subst, _∙_}
 use mathlib.Core.Logic.{inl, inr}
@@ -21,15 +21,15 @@ use Rattle.script.proofs.Scripts.{fits-script, Auditable}
 use Rattle.run.specs.Run.{Run, begun, nextStep, runFor}
 use Rattle.run.specs.SlotRun.{SlotRun, nextSlotStep, slotRunOf}
 use Rattle.run.proofs.MoreLog.{rows-added, readings-filled}
-use Rattle.audit_verdict.specs.Auditor.{verdictNumber, faultAt, knowNothing, walkOf, auditOf, auditNumber}
-use Rattle.audit_verdict.specs.Demand3.{Orderly, Safe, VerdictMeans, Demand3}
+use Rattle.audit_verdict.specs.Auditor.{knowNothing, walkOf, auditOf}
+use Rattle.audit_verdict.specs.Demand3.{Safe, VerdictMeans, Demand3}
 use Rattle.audit_verdict.specs.Witness.{OwnLogShows, Witnessed}
 use Rattle.audit_verdict.specs.declared.verdicts.Knowledge.{Knowledge}
 use Rattle.audit_verdict.specs.declared.verdicts.Verdict.{Verdict}
 use Rattle.audit_verdict.proofs.Cases.{never}
 use Rattle.audit_verdict.proofs.Going.{sceneUnder, performs}
 use Rattle.audit_verdict.proofs.Walk.{Walk, actionsOf, way-is, Ends, at-refused, at-bad, at-exit, Walked, audit-walks}
-use Rattle.audit_verdict.proofs.Soundness.{Stands, goes, waits, exits, sound}
+use Rattle.audit_verdict.proofs.Soundness.{orderly-effect, Stands, goes, waits, exits, sound}
 use Rattle.audit_verdict.proofs.Endings.{ends-well}
 use Rattle.audit_verdict.proofs.SameWrites.{same-writes}
 use Rattle.audit_verdict.proofs.WitnessRun.{witnessLog}
@@ -38,14 +38,6 @@ use Rattle.audit_verdict.proofs.Starts.{begun-agrees, slot-follows, eff
 use Rattle.audit_verdict.proofs.Shown.{exact-in, exited, shown-by}
 use Rattle.audit_verdict.proofs.Faults.{refused, blamed}
 use Rattle.audit_verdict.proofs.ReplayLaws.{replay-tells}
-
-orderly-effect : (action : Action) (addr word : ℕ) → Orderly (effectOf action true addr word)
-orderly-effect (Action.Wait n) addr word = tt
-orderly-effect (Action.Ewait event value) addr word = tt
-orderly-effect (Action.Flag change flag) addr word = tt
-orderly-effect (Action.Load part operand) addr word = tt
-orderly-effect (Action.Poke part operand) addr word = tt
-orderly-effect Action.Exit addr word = tt
 
 -- ---- a state's run, from what it shows of the slot
 
@@ -111,14 +103,6 @@ module _ (x : Script) (ranges : List ℕ) (fit : Auditable x) (fits-so : scriptF
 
   witnessed : OwnLogShows x ranges (walkOf x ranges)
   witnessed = rw (way-is (codeSize (x .family)) (walk .walk) (omega arith)) (shown-by fit (walk .walk) (walk .ends))
-
-number-of : (fits : Bool) (v : Verdict) → verdictNumber (cond fits v (faultAt Fault.Input 0)) ≡ cond (not fits) 9 (verdictNumber v)
-number-of true v = refl
-number-of false v = refl
-
-pub audit-numbered : (x : Script) (ranges : List ℕ) → verdictNumber (auditOf x ranges) ≡ auditNumber x ranges
-unfolding auditOf auditNumber
-audit-numbered x ranges = number-of (inputFits x ranges) (walkOf x ranges)
 
 -- a script of bytes
 module _ (x : Script) (ranges : List ℕ) (bytes : (i : ℕ) → getD (x .code) i 0 < 2 ^ 8) where

@@ -20,14 +20,14 @@ use Rattle.run.proofs.SlotRuns.{slot-add}
 use Rattle.script.specs.Script.{Script, fetchAt}
 use Rattle.script.proofs.Scripts.{Fits, Auditable, Reads}
 use Rattle.audit_verdict.specs.Auditor.{faultOf, canRelease, knowNothing}
-use Rattle.audit_verdict.specs.Demand3.{AtPlace, Fetchless, FaultMeans}
+use Rattle.audit_verdict.specs.Demand3.{AtPlace, Fetchless, Witness, Shows, FaultMeans}
 use Rattle.audit_verdict.specs.Start.{Start}
 use Rattle.audit_verdict.specs.declared.verdicts.Knowledge.{Knowledge}
 use Rattle.audit_verdict.proofs.Going.{sceneUnder, next, run-rests, Going}
 use Rattle.audit_verdict.proofs.Judging.{Blame}
 use Rattle.audit_verdict.proofs.Walk.{Walk}
 use Rattle.audit_verdict.proofs.Starts.{slot-follows, effect-follows, someState, some-start}
-use Rattle.audit_verdict.proofs.Shown.{stuck-there, witness, brought, SeesIt, refused-sees, blamed-sees}
+use Rattle.audit_verdict.proofs.Shown.{stuck-there, witness, brought, none-before, one-address, one-write, SeesIt, refused-sees, blamed-sees}
 
 -- no run from a start that comes to an ewait that nothing can release fetches again
 stuck : {x : Script} {p t event value : ℕ} → Reads x p (Action.Ewait event value) t → canRelease event value ≡ false → Fits x
@@ -50,13 +50,17 @@ module _ {x : Script} {ranges : List ℕ} (fit : Auditable x) {q : ℕ} {k : Kno
   plain : Start x SlotName.A (someState x 0 0)
   plain = some-start fit 0 0 (lit< tt) (lit< tt)
 
+  -- the place is reached with no fault before it, and there the run shows this
+  shown : {P : Witness x → Type 0} → P (witness fit w plain) → Shows x ranges q P
+  shown p = (witness fit w plain, brought fit w plain, none-before fit w plain, p)
+
   -- the fetch fails
   pub refused : (why : Unreadable) → fetchAt x q ≡ Decoded.Refused why → Means (faultOf why)
   refused Unreadable.Family e = absurd (refused-sees fit w plain Unreadable.Family e)
-  refused Unreadable.Empty e = (witness fit w plain, brought fit w plain, refused-sees fit w plain Unreadable.Empty e)
-  refused Unreadable.Unknown e = (witness fit w plain, brought fit w plain, refused-sees fit w plain Unreadable.Unknown e)
-  refused Unreadable.Short e = (witness fit w plain, brought fit w plain, refused-sees fit w plain Unreadable.Short e)
-  refused Unreadable.NotUploaded e = (witness fit w plain, brought fit w plain, refused-sees fit w plain Unreadable.NotUploaded e)
+  refused Unreadable.Empty e = shown (refused-sees fit w plain Unreadable.Empty e)
+  refused Unreadable.Unknown e = shown (refused-sees fit w plain Unreadable.Unknown e)
+  refused Unreadable.Short e = shown (refused-sees fit w plain Unreadable.Short e)
+  refused Unreadable.NotUploaded e = shown (refused-sees fit w plain Unreadable.NotUploaded e)
 
   -- a judgement blames an action
   module _ (action : Action) (m : ℕ) (e : Reads x q action m) where
@@ -67,12 +71,16 @@ module _ {x : Script} {ranges : List ℕ} (fit : Auditable x) {q : ℕ} {k : Kno
     blamed Fault.PastRam b = absurd b
     blamed Fault.NotUploaded b = absurd b
     blamed Fault.Unknown b = absurd b
-    blamed Fault.NoAddress b = let two = sees Fault.NoAddress b .1 in (witness fit w (two .0), witness fit w (two .1), 65536, refl, two .2)
-    blamed Fault.HalfData b = let two = sees Fault.HalfData b .1 in (witness fit w (two .0), witness fit w (two .1), 65536, refl, two .2)
-    blamed Fault.Outside b = (witness fit w plain, brought fit w plain, sees Fault.Outside b)
-    blamed Fault.Unreleased b = (
-      (witness fit w plain, brought fit w plain, sees Fault.Unreleased b .waits),
-      λ name s start log. stuck (rw (b .2) at e) (b .3) (fit .fits) start log,
-    )
-    blamed Fault.Paused b = let h = sees Fault.Paused b in (witness fit w plain, brought fit w plain, h .0, h .1, h .2)
+    blamed Fault.NoAddress b =
+        let two = sees Fault.NoAddress b .1 in
+        let one = two .0 in
+        (witness fit w one, brought fit w one, none-before fit w one, (witness fit w (two .1), 65536, refl, two .2))
+    blamed Fault.HalfData b =
+        let two = sees Fault.HalfData b .1 in
+        let one = two .0 in
+        let at-one = one-address fit w one (b .0) (b .1) (b .2) (rw (b .3) at e) (b .4) in
+        (witness fit w one, brought fit w one, none-before fit w one, ((witness fit w (two .1), 65536, refl, two .2), at-one))
+    blamed Fault.Outside b = shown (_, _, b .6, one-write fit w plain (b .0) (b .1) (b .2) (rw (b .3) at e) (b .4) (b .5))
+    blamed Fault.Unreleased b = (shown (sees Fault.Unreleased b .waits), λ name s start log. stuck (rw (b .2) at e) (b .3) (fit .fits) start log)
+    blamed Fault.Paused b = let h = sees Fault.Paused b in shown (h .0, h .1, h .2)
     blamed Fault.Input b = absurd b

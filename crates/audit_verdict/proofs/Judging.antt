@@ -55,10 +55,12 @@ module _ (family : ℕ) (ranges : List ℕ) where
   Blame action k Fault.NotUploaded = ⊥
   Blame action k Fault.Unknown = ⊥
   Blame action k Fault.NoAddress = (word : ℕ) × (action ≡ Action.Poke Part.Low word) × (k .addr ≡ KnownAddress.Unset)
-  Blame action k Fault.HalfData = (part : Part) × (word : ℕ) × (action ≡ Action.Poke part word) × (k .«data» ≡ false)
+  Blame action k Fault.HalfData =
+      (part : Part) × (word : ℕ) × (address : MmioAddress) × (action ≡ Action.Poke part word) × (targetOf part word (k .addr) ≡ KnownAddress.At address)
+      × (k .«data» ≡ false)
   Blame action k Fault.Outside =
       (part : Part) × (word : ℕ) × (address : MmioAddress) × (action ≡ Action.Poke part word) × (targetOf part word (k .addr) ≡ KnownAddress.At address)
-      × (listedIn ranges (address .0) ≡ false)
+      × (k .«data» ≡ true) × (listedIn ranges (address .0) ≡ false)
   Blame action k Fault.Unreleased = (event : ℕ) × (value : ℕ) × (action ≡ Action.Ewait event value) × (canRelease event value ≡ false)
   Blame action k Fault.Paused = (action ≡ Action.Exit) × ((pausesMemory family && k .paused) ≡ true)
   Blame action k Fault.Input = ⊥
@@ -69,10 +71,16 @@ module _ (family : ℕ) (ranges : List ℕ) where
   Why action k (Judgement.Bad fault) = Blame action k fault
 
   -- what is to be shown of each judgement
+  no-address : (word : ℕ) (k : Knowledge) → k .addr ≡ KnownAddress.Unset → Blame (Action.Poke Part.Low word) k Fault.NoAddress
+  no-address word k unset = (word, refl, unset)
+
+  half-data : (part : Part) (word : ℕ) (k : Knowledge) (address : MmioAddress) → targetOf part word (k .addr) ≡ KnownAddress.At address
+      → k .«data» ≡ false → Blame (Action.Poke part word) k Fault.HalfData
+  half-data part word k address t d = (part, word, address, refl, t, d)
+
   outside : (part : Part) (word : ℕ) (k : Knowledge) (address : MmioAddress) → targetOf part word (k .addr) ≡ KnownAddress.At address
-      → listedIn ranges (address .0) ≡ false
-      → Blame (Action.Poke part word) k Fault.Outside
-  outside part word k address t l = (part, word, address, refl, t, l)
+      → k .«data» ≡ true → listedIn ranges (address .0) ≡ false → Blame (Action.Poke part word) k Fault.Outside
+  outside part word k address t d l = (part, word, address, refl, t, d, l)
 
   unreleased : (event value : ℕ) (k : Knowledge) → canRelease event value ≡ false → Blame (Action.Ewait event value) k Fault.Unreleased
   unreleased event value k c = (event, value, refl, c)
@@ -86,14 +94,13 @@ module _ (family : ℕ) (ranges : List ℕ) where
   why-poke : (part : Part) (word : ℕ) (k : Knowledge) (target : KnownAddress) → targetOf part word (k .addr) ≡ target
       → (halves : Bool) → k .«data» ≡ halves → Why (Action.Poke part word) k (judgePoke ranges target halves)
   why-poke Part.Whole word k KnownAddress.Unset t halves d = never (cc)
-  why-poke Part.Low word k KnownAddress.Unset t halves d = (word, refl, unset (k .addr) t)
+  why-poke Part.Low word k KnownAddress.Unset t halves d = no-address word k (unset (k .addr) t)
     where
       unset : (known : KnownAddress) → targetOf Part.Low word known ≡ KnownAddress.Unset → known ≡ KnownAddress.Unset
       unset KnownAddress.Unset t = refl
       unset (KnownAddress.At address) t = never (cc)
-  why-poke part word k (KnownAddress.At address) t halves d =
-      cond-elim (Why (Action.Poke part word) k) halves
-      (λ h. cond-elim (Why (Action.Poke part word) k) (listedIn ranges (address .0))
+  why-poke part word k (KnownAddress.At address) t true d =
+      cond-elim (Why (Action.Poke part word) k) (listedIn ranges (address .0))
       (λ l. record {
         goes = refl;
         moves = λ at next. refl;
@@ -101,10 +108,10 @@ module _ (family : ℕ) (ranges : List ℕ) where
         listed = λ start addr data′ e. (rw (poke-addr part word start addr address (k .addr) t e) l, tt);
         event = λ event value q. never (cc);
         writes = λ start start′ addr addr′ data′ data″ e e′ same.
-            rw (poke-addr part word start addr address (k .addr) t e, poke-addr part word start′ addr′ address (k .addr) t e′, same (d ∙ h)) refl;
+            rw (poke-addr part word start addr address (k .addr) t e, poke-addr part word start′ addr′ address (k .addr) t e′, same d) refl;
       })
-      (λ l. outside part word k address t l))
-      (λ h. (part, word, refl, d ∙ h))
+      (λ l. outside part word k address t d l)
+  why-poke part word k (KnownAddress.At address) t false d = half-data part word k address t d
 
   pub explain : (action : Action) (k : Knowledge) → Why action k (judgeOf family ranges action k)
   explain (Action.Wait n) k =

@@ -1,4 +1,5 @@
 pub mod Cases
+pub mod FirstFault
 pub mod FlagLaws
 pub mod Going
 pub mod Lapse
@@ -6,9 +7,9 @@ pub mod Judging
 pub mod Walk
 pub mod Agreement
 pub mod Soundness
-pub mod SameWrites
 pub mod Endings
 pub mod WitnessRun
+pub mod SameWrites
 pub mod WitnessLog
 pub mod Starts
 pub mod Shown

@@ -1,9 +1,12 @@
--- Runs of a passed script from any two starts, under one log, write the same step for step: no poke needs what ADDR or DATA held before. Assumes nothing.
-use Prim.Native.Nat.{ℕ, zero, suc}
+-- Runs through the auditor's walk from any two starts, under one log, write the same step for step: no poke needs what ADDR or DATA held before. Assumes
+-- nothing.
+use Prim.Native.Nat.{ℕ, zero, suc, _<_}
 use mathlib.Core.Path.{_≡_, refl, ap, ap₂, _∙_}
 use mathlib.Core.Logic.{⊎-elim}
 use mathlib.Core.Bool.{Bool, true, false}
 use mathlib.Core.List.{List, _++_}
+use native.Mathlib.Omega.{arith}
+use lib.ListN.{length}
 use Rattle.log.specs.Log.{Log}
 use Rattle.log.specs.declared.place.Place.{Place}
 use Rattle.machine_actions.specs.Action.{mergeOf}
@@ -14,15 +17,18 @@ use Rattle.machine_state.specs.declared.slots.Mode.{Mode}
 use Rattle.machine_time.specs.Time.{elapsedOf}
 use Rattle.machine_slot.specs.SlotStep.{dataAfter, effectOf, performOf}
 use Rattle.run.specs.Run.{wroteBy}
-use Rattle.run.specs.SlotRun.{Scene, SlotRun, slotRunFor}
+use Rattle.run.specs.SlotRun.{Scene, SlotRun, nextSlotStep, slotRunFor}
 use Rattle.script.specs.Script.{Script}
 use Rattle.script.proofs.Scripts.{Reads}
 use Rattle.audit_verdict.specs.Auditor.{loadsBoth, knownData, knowNext}
+use Rattle.audit_verdict.specs.Demand3.{Orderly}
 use Rattle.audit_verdict.specs.declared.verdicts.Knowledge.{Knowledge}
 use Rattle.audit_verdict.proofs.Cases.{either}
 use Rattle.audit_verdict.proofs.Going.{sceneUnder, next, run-rests, performs, mode-then}
-use Rattle.audit_verdict.proofs.Walk.{Walk, here, more}
+use Rattle.audit_verdict.proofs.Walk.{Walk, here, more, actionsOf}
 use Rattle.audit_verdict.proofs.Agreement.{Agree, goes-on, waits-then}
+use Rattle.audit_verdict.proofs.Soundness.{orderly-effect}
+use Rattle.audit_verdict.proofs.WitnessRun.{Unheld}
 
 -- with both halves set, DATA is the same after an action
 load-same : (part : Part) (operand word word′ : ℕ) (halves : Bool) → (halves ≡ true → word ≡ word′) → loadsBoth part halves ≡ true
@@ -80,3 +86,23 @@ module _ (x : Script) (ranges : List ℕ) (log : Log) where
       ⊎-elim (λ d. same-writes e w (goes-on log g f j d) (goes-on log g′ f j (rw (s .place) at d)) same n)
       (λ d. rest refl n (next scene r) (next scene r′) (waits-then log g f j d) (waits-then log g′ f j (rw (s .place) at d)) (same .writes))
       (either (elapsedOf action log (r .place) .finished))
+
+  -- two runs through a walk that is held up nowhere
+  pub same-through : {addr word addr′ word′ p q : ℕ} {k l : Knowledge} {r r′ : SlotRun} (w : Walk x ranges p k q l)
+      → Agree x ranges addr word p k r → Agree x ranges addr′ word′ p k r′ → Same k r r′ → Unheld log w r
+      → Same l (slotRunFor scene (length (actionsOf w)) r) (slotRunFor scene (length (actionsOf w)) r′)
+  unfolding slotRunFor
+  same-through here g g′ s u = s
+  same-through {addr} {word} {addr′} {word′} {r = r} {r′ = r′} (more action t f j w) g g′ s u =
+      let wrote = j .writes addr addr′ (r .slot .addr .0) (r′ .slot .addr .0) (r .slot .«data») (r′ .slot .«data») (g .held) (g′ .held) (s .held) in
+      same-through w (goes-on log g f j (u .0)) (goes-on log g′ f j (rw (s .place) at (u .0))) (next-same g g′ f s wrote) (u .1)
+
+  -- each step of it is in order
+  pub orderly-through : {addr word p q : ℕ} {k l : Knowledge} {r : SlotRun} (w : Walk x ranges p k q l)
+      → Agree x ranges addr word p k r → Unheld log w r → (n : ℕ) → n < length (actionsOf w)
+      → Orderly (nextSlotStep scene (slotRunFor scene n r) .effect)
+  unfolding slotRunFor performOf
+  orderly-through here g u n h = absurd (omega arith)
+  orderly-through {r = r} (more action t e f w) g u zero h =
+      rw (performs x true log (g .going) e) (orderly-effect action (r .slot .addr .0) (r .slot .«data»))
+  orderly-through (more action t e f w) g u (suc n) h = orderly-through w (goes-on log g e f (u .0)) (u .1) n (omega arith)

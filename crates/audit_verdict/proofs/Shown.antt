@@ -9,6 +9,7 @@ use lib.Dec.{lit<}
 use lib.ListN.{length, length-map}
 use borrow.Author.Tests.{lt-ltb}
 use Rattle.families.specs.Family.{knownFamily, pausesMemory}
+use Rattle.isa.specs.declared.addresses.MmioAddress.{MmioAddress}
 use Rattle.isa.specs.declared.reader.Decoded.{Decoded}
 use Rattle.refusals.specs.declared.refusals.Fault.{Fault}
 use Rattle.refusals.specs.declared.refusals.Unreadable.{Unreadable}
@@ -37,8 +38,8 @@ use Rattle.run.specs.SlotRun.{Scene, SlotRun, slotBegun, nextSlotStep, slotRunF
 use Rattle.run.proofs.SlotRuns.{slot-snoc}
 use Rattle.script.specs.Script.{Script, fetchAt}
 use Rattle.script.proofs.Scripts.{Auditable, Reads}
-use Rattle.audit_verdict.specs.Auditor.{faultOf, canRelease, knowNothing}
-use Rattle.audit_verdict.specs.Demand3.{AtPlace, Exact, Witness, WriteDifferently, withAddr, withData}
+use Rattle.audit_verdict.specs.Auditor.{faultOf, targetOf, canRelease, knowNothing}
+use Rattle.audit_verdict.specs.Demand3.{AtPlace, Exact, Witness, WriteDifferently, OneAddress, NoneBefore, withAddr, withData}
 use Rattle.audit_verdict.specs.Start.{Start}
 use Rattle.audit_verdict.specs.Witness.{writesOver, witnessFrom, placeOf, Differ, Sees, ShowsVerdict, ShownFrom, ShownBy}
 use Rattle.audit_verdict.specs.declared.verdicts.KnownAddress.{KnownAddress}
@@ -50,7 +51,8 @@ use Rattle.audit_verdict.proofs.Judging.{heldAddr, poke-addr, Blame}
 use Rattle.audit_verdict.proofs.Walk.{Walk, actionsOf, walk-counts, walk-writes, Ends, at-refused, at-bad, at-exit}
 use Rattle.audit_verdict.proofs.Agreement.{Agree}
 use Rattle.audit_verdict.proofs.Soundness.{Exited, exit-step}
-use Rattle.audit_verdict.proofs.WitnessRun.{witnessRows, witnessLog, Arrived, reach}
+use Rattle.audit_verdict.proofs.WitnessRun.{witnessRows, witnessLog, Unheld, Arrived, reach}
+use Rattle.audit_verdict.proofs.SameWrites.{Same, same-through, orderly-through}
 use Rattle.audit_verdict.proofs.WitnessLog.{witness-few, witness-valid, witness-masks}
 use Rattle.audit_verdict.proofs.Starts.{begun-agrees, slot-follows, effect-follows, start-addr, start-data}
 
@@ -115,7 +117,10 @@ module _ {x : Script} {ranges : List ℕ} (fit : Auditable x) {q : ℕ} {k : Kno
     slot-run = slotRunFor scene steps (slotBegun (slotOf s name) (s .flags))
 
     arrived : Arrived x ranges log (slotOf s name .addr .0) (slotOf s name .«data») q k (length (witnessRows w)) slot-run
-    arrived = reach w (begun-agrees start)
+    arrived = reach w (begun-agrees start) .1
+
+    unheld : Unheld log w (slotBegun (slotOf s name) (s .flags))
+    unheld = reach w (begun-agrees start) .0
 
     agrees : Agree x ranges (slotOf s name .addr .0) (slotOf s name .«data») q k slot-run
     agrees = arrived .agrees
@@ -161,6 +166,43 @@ module _ {x : Script} {ranges : List ℕ} (fit : Auditable x) {q : ℕ} {k : Kno
     own-data : {m : ℕ} (part : Part) (operand : ℕ) → Reads x q (Action.Poke part operand) m → k .«data» ≡ false
         → (address : ℕ) × (word : ℕ) × (effect ≡ Effect.Wrote (record { 0 = address }) word) × (word / 65536 ≡ slotOf s name .«data» / 65536)
     own-data part operand e half = (_, _, pokes part operand e, agrees .high half)
+
+    -- a poke whose address the script has set goes there
+    pokes-at : {m : ℕ} (part : Part) (operand : ℕ) (address : MmioAddress) → Reads x q (Action.Poke part operand) m
+        → targetOf part operand (k .addr) ≡ KnownAddress.At address
+        → effect ≡ Effect.Wrote (record { 0 = address .0 }) (slot-run .slot .«data»)
+    pokes-at part operand address e t =
+        pokes part operand e
+        ∙ ap (λ (a : ℕ). Effect.Wrote (record { 0 = a }) (slot-run .slot .«data»))
+        (poke-addr part operand (slotOf s name .addr .0) (slot-run .slot .addr .0) address (k .addr) t (agrees .held))
+
+  -- ---- what starts have in common
+
+  together : {name name′ : SlotName} {s s′ : State} (one : Start x name s) (two : Start x name′ s′) → Same x ranges log k (slot-run one) (slot-run two)
+  together one two =
+      same-through x ranges log w (begun-agrees one) (begun-agrees two) (record { place = refl; writes = refl; held = λ h. never (cc) }) (unheld one)
+
+  module _ {name : SlotName} {s : State} (start : Start x name s) where
+    pub none-before : NoneBefore x ranges (witness start)
+    none-before = record {
+      orderly = λ name′ s′ other n h.
+          rw (effect-follows other (fit .fits) log (witness-valid w) n) (orderly-through x ranges log w (begun-agrees other) (unheld other) n h);
+      same-writes = λ name′ s′ other.
+          ap (λ (r : SlotRun). r .writes) (same other) ∙ together other start .writes ∙ sym (ap (λ (r : SlotRun). r .writes) (same start));
+      listed = rw (ap (λ (r : SlotRun). r .writes) (same start)) (agrees start .listed);
+    }
+
+    -- with ADDR set by the script every start writes at one address, and with DATA set too one word
+    module _ {m : ℕ} (part : Part) (operand : ℕ) (address : MmioAddress) (e : Reads x q (Action.Poke part operand) m)
+        (t : targetOf part operand (k .addr) ≡ KnownAddress.At address) where
+      pub one-address : OneAddress x (witness start)
+      one-address = (address .0, λ name′ s′ other. (slot-run other .slot .«data», pokes-at other part operand address e t))
+
+      pub one-write : k .«data» ≡ true → (name′ : SlotName) (s′ : State) (other : Start x name′ s′)
+          → effect other ≡ Effect.Wrote (record { 0 = address .0 }) (slot-run start .slot .«data»)
+      one-write halves name′ s′ other =
+          pokes-at other part operand address e t
+          ∙ ap (λ (word : ℕ). Effect.Wrote (record { 0 = address .0 }) word) (together other start .held halves)
 
   -- ---- two starts that write differently
 
@@ -230,13 +272,8 @@ module _ {x : Script} {ranges : List ℕ} (fit : Auditable x) {q : ℕ} {k : Kno
     blamed-sees action m Fault.NotUploaded e b = absurd b
     blamed-sees action m Fault.Unknown e b = absurd b
     blamed-sees action m Fault.NoAddress e b = let poke = rw (b .1) at e in (own-addr start (b .0) poke (b .2), addr-differs (b .0) poke (b .2))
-    blamed-sees action m Fault.HalfData e b = let poke = rw (b .2) at e in (own-data start (b .0) (b .1) poke (b .3), data-differs (b .0) (b .1) poke (b .3))
-    blamed-sees action m Fault.Outside e b = (
-      _,
-      _,
-      pokes start (b .0) (b .1) (rw (b .3) at e),
-      rw (poke-addr (b .0) (b .1) (slotOf s name .addr .0) (slot-run start .slot .addr .0) (b .2) (k .addr) (b .4) (agrees start .held)) (b .5),
-    )
+    blamed-sees action m Fault.HalfData e b = let poke = rw (b .3) at e in (own-data start (b .0) (b .1) poke (b .5), data-differs (b .0) (b .1) poke (b .5))
+    blamed-sees action m Fault.Outside e b = (_, _, pokes-at start (b .0) (b .1) (b .2) (rw (b .3) at e) (b .4), b .6)
     blamed-sees action m Fault.Unreleased e b =
         let h = subst (Stuck log) (sym (after start)) (stuck-there (rw (b .2) at e) (b .3) log (agrees start .going)) in
         record { waits = h .waits; row = h .row; used = h .used }

@@ -13,18 +13,26 @@ use Rattle.machine_flags.specs.Flags.{pausedOf}
 use Rattle.machine_state.specs.Slot.{isRunning}
 use Rattle.machine_state.specs.declared.slots.Mode.{Mode}
 use Rattle.machine_time.specs.Time.{elapsedOf}
-use Rattle.machine_slot.specs.SlotStep.{performOf}
+use Rattle.machine_slot.specs.SlotStep.{effectOf, performOf}
 use Rattle.machine_actions.specs.declared.actions.Action.{Action}
 use Rattle.run.specs.SlotRun.{SlotRun, slotRunFor}
 use Rattle.run.proofs.SlotRuns.{next-place}
 use Rattle.script.specs.Script.{Script}
 use Rattle.script.proofs.Scripts.{Reads}
-use Rattle.audit_verdict.specs.Demand3.{AllListed}
+use Rattle.audit_verdict.specs.Demand3.{AllListed, Orderly}
 use Rattle.audit_verdict.specs.declared.verdicts.Knowledge.{Knowledge}
 use Rattle.audit_verdict.proofs.Cases.{either}
 use Rattle.audit_verdict.proofs.Going.{sceneUnder, next, run-rests, performs}
 use Rattle.audit_verdict.proofs.Walk.{Walk, here, more}
 use Rattle.audit_verdict.proofs.Agreement.{Agree, Held, goes-on, held-up}
+
+pub orderly-effect : (action : Action) (addr word : ℕ) → Orderly (effectOf action true addr word)
+orderly-effect (Action.Wait n) addr word = tt
+orderly-effect (Action.Ewait event value) addr word = tt
+orderly-effect (Action.Flag change flag) addr word = tt
+orderly-effect (Action.Load part operand) addr word = tt
+orderly-effect (Action.Poke part operand) addr word = tt
+orderly-effect Action.Exit addr word = tt
 
 module _ (x : Script) (ranges : List ℕ) where
   -- a run that stands at exit, with the auditor's numbers

@@ -22,6 +22,7 @@ use Rattle.audit_verdict.specs.declared.verdicts.Knowledge.{Knowledge}
 use Rattle.audit_verdict.specs.declared.verdicts.Verdict.{Verdict}
 use Rattle.script.specs.Script.{Script, fetchAt}
 use Rattle.script.proofs.Scripts.{Reads, fetch-reads}
+use Rattle.audit_verdict.proofs.FirstFault.{walk-fine, walk-exit, walk-bad, walk-none}
 use Rattle.audit_verdict.proofs.Judging.{Fine, Blame, Why, explain}
 
 module _ (x : Script) (ranges : List ℕ) where
@@ -103,13 +104,13 @@ module _ (x : Script) (ranges : List ℕ) where
 
       judged : (i : Instruction) (n : ℕ) → Reads x p (actionOf i) n → fetchAt x p ≡ Decoded.Instruction i n → Later (actionOf i) n
           → (j : Judgement) → judgeOf (x .family) ranges (actionOf i) k ≡ j → Why (x .family) ranges (actionOf i) k j → WalkedTo p k (verdict (suc left) p k)
-      judged i n e f w Judgement.Fine j y = rw (f, j, verdictIn) (on (actionOf i) n e y w)
-      judged i n e f w Judgement.Exit j y = rw (f, j, verdictIn) (at-once (at-exit n (rw (y .0) at e) (y .1)))
-      judged i n e f w (Judgement.Bad fault) j y = rw (f, j, verdictIn) (at-once (at-bad (actionOf i) n fault e y))
+      judged i n e f w Judgement.Fine j y = rw (walk-fine x ranges left p k i n f j) (on (actionOf i) n e y w)
+      judged i n e f w Judgement.Exit j y = rw (walk-exit x ranges left p k i n f j) (at-once (at-exit n (rw (y .0) at e) (y .1)))
+      judged i n e f w (Judgement.Bad fault) j y = rw (walk-bad x ranges left p k i n f fault j) (at-once (at-bad (actionOf i) n fault e y))
 
       by : ((action : Action) (n : ℕ) → codeSize (x .family) ≤ p + n + left → Later action n)
           → (d : Decoded) → fetchAt x p ≡ d → WalkedTo p k (verdict (suc left) p k)
       by w (Decoded.Instruction i n) e =
           let r = fetch-reads x bytes p i n e in
           judged i n r e (w (actionOf i) n (omega arith)) (judgeOf (x .family) ranges (actionOf i) k) refl (explain (x .family) ranges (actionOf i) k)
-      by w (Decoded.Refused why) e = rw (e, verdictIn) (at-once (at-refused why e))
+      by w (Decoded.Refused why) e = rw (walk-none x ranges left p k why e) (at-once (at-refused why e))

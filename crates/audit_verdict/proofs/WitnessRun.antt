@@ -1,4 +1,4 @@
--- Under the log made for the auditor's walk a run from every start comes to where the walk ends, with one clock to spare. Assumes nothing.
+-- Under the log made for the auditor's walk a run from every start comes to where the walk ends, held up nowhere, with one clock to spare. Assumes nothing.
 use Prim.Native.Nat.{ℕ, zero, suc, _+_, _-_, _%_, _^_, _≤_, _<_}
 use mathlib.Core.Path.{_≡_, refl, sym, ap, _∙_}
 use mathlib.Core.Bool.{Bool, true, false, cond, _&&_}
@@ -30,7 +30,7 @@ use Rattle.audit_verdict.specs.Auditor.{canRelease, Releasable, knowNoth
 use Rattle.audit_verdict.specs.Witness.{firstRow, eventRow, releases, rowAfter, rowsEnded, rowsOver}
 use Rattle.audit_verdict.specs.declared.verdicts.Knowledge.{Knowledge}
 use Rattle.audit_verdict.proofs.Cases.{never, below-at}
-use Rattle.audit_verdict.proofs.Going.{sceneUnder, performs}
+use Rattle.audit_verdict.proofs.Going.{sceneUnder, next, performs}
 use Rattle.audit_verdict.proofs.Walk.{Walk, here, more, actionsOf}
 use Rattle.audit_verdict.proofs.Agreement.{Agree, goes-on}
 
@@ -174,27 +174,37 @@ pub record Arrived (x : Script) (ranges : List ℕ) (log : Log) (addr word q : �
   pub one-left : leftOf (log .clocks) (r .place) ≡ 1
   pub passed-by : suc (r .ewaits) ≡ passed
 
+-- no action of a walk is held up
+module _ {x : Script} {ranges : List ℕ} (log : Log) where
+  abbrev pub Unheld : {p q : ℕ} {k l : Knowledge} → Walk x ranges p k q l → SlotRun → Type 0
+  Unheld here r = Unit {0}
+  Unheld (more action n e f w) r = (elapsedOf action log (r .place) .finished ≡ true) × Unheld w (next (sceneUnder x log) r)
+
 module _ {x : Script} {ranges : List ℕ} (log : List Row) where
   reach-on : {addr word p q : ℕ} {k l : Knowledge} {r : SlotRun} (w : Walk x ranges p k q l) (row : Row) → Agree x ranges addr word p k r
       → On log (r .place) row (rowsOver (actionsOf w) row)
-      → Arrived x ranges (logOfRows log) addr word q l (length (rowsOver (actionsOf w) row) + r .ewaits)
-      (slotRunFor (sceneUnder x (logOfRows log)) (length (actionsOf w)) r)
+      → (Unheld (logOfRows log) w r) × (Arrived x ranges (logOfRows log) addr word q l (length (rowsOver (actionsOf w) row) + r .ewaits)
+      (slotRunFor (sceneUnder x (logOfRows log)) (length (actionsOf w)) r))
   unfolding slotRunFor performOf
-  reach-on {r = r} here row g o = record { agrees = g; one-left = last-left log (r .place) row o; passed-by = omega arith }
+  reach-on {r = r} here row g o = (tt, record { agrees = g; one-left = last-left log (r .place) row o; passed-by = omega arith })
   reach-on {r = r} (more action n e f w) row g o =
-      let next = rowAfter action row in
-      let t = finishes log action (r .place) row (rowsOver (actionsOf w) next) (f .event) (continues (actionsOf w) next) o in
+      let later = rowAfter action row in
+      let t = finishes log action (r .place) row (rowsOver (actionsOf w) later) (f .event) (continues (actionsOf w) later) o in
       let does = performs x true (logOfRows log) (g .going) e in
-      let rest = reach-on w next (goes-on (logOfRows log) g e f (t .finished)) (rw (ap (λ (step : SlotStep). step .place) does) (t .on)) in
+      let rest = reach-on w later (goes-on (logOfRows log) g e f (t .finished)) (rw (ap (λ (step : SlotStep). step .place) does) (t .on)) in
       let searched = ap (λ (step : SlotStep). step .searched) does in
-      let sum = length-append (rowsEnded action row) (rowsOver (actionsOf w) next) in
-      record { agrees = rest .agrees; one-left = rest .one-left; passed-by = omega (arith, rest .passed-by, searched, t .passed, sum) }
+      let sum = length-append (rowsEnded action row) (rowsOver (actionsOf w) later) in
+      let arrived = rest .1 in (
+        (t .finished, rest .0),
+        record { agrees = arrived .agrees; one-left = arrived .one-left; passed-by = omega (arith, arrived .passed-by, searched, t .passed, sum) },
+      )
 
--- a start, under the log made for a walk from it, comes to where the walk ends
+-- a start, under the log made for a walk from it, is held up nowhere and comes to where the walk ends
 pub reach : {x : Script} {ranges : List ℕ} {entry q : ℕ} {l : Knowledge} (w : Walk x ranges entry knowNothing q l)
     → {addr word : ℕ} {slot : Slot} {flags : Flags} → Agree x ranges addr word entry knowNothing (slotBegun slot flags)
-    → Arrived x ranges (witnessLog w) addr word q l (length (witnessRows w))
-    (slotRunFor (sceneUnder x (witnessLog w)) (length (actionsOf w)) (slotBegun slot flags))
+    → (Unheld (witnessLog w) w (slotBegun slot flags)) × (Arrived x ranges (witnessLog w) addr word q l (length (witnessRows w))
+    (slotRunFor (sceneUnder x (witnessLog w)) (length (actionsOf w)) (slotBegun slot flags)))
 reach w g =
-    let a = reach-on (witnessRows w) w firstRow g (record { ahead = refl; used = refl }) in
-    record { agrees = a .agrees; one-left = a .one-left; passed-by = omega (arith, a .passed-by) }
+    let r = reach-on (witnessRows w) w firstRow g (record { ahead = refl; used = refl }) in
+    let a = r .1 in
+    (r .0, record { agrees = a .agrees; one-left = a .one-left; passed-by = omega (arith, a .passed-by) })

@@ -1,7 +1,7 @@
 -- What the auditor says (01, "What the auditor says").
 use Prim.Native.Nat.{ℕ, zero, suc, _+_}
 use mathlib.Core.Path.{_≡_}
-use mathlib.Core.Bool.{Bool, true, false, cond, not, _&&_}
+use mathlib.Core.Bool.{Bool, true, false, cond, _&&_}
 use mathlib.Core.List.{List}
 use lib.Dec.{ltb, eqb}
 use Rattle.refusals.specs.Number.{faultNumber}
@@ -158,7 +158,3 @@ walkOf script ranges = verdictIn (codeSize (script .family)) script ranges (scri
 -- 9 first, at place 0; then the walk
 unfoldable pub auditOf : Script → List ℕ → Verdict
 auditOf script ranges = cond (inputFits script ranges) (walkOf script ranges) (faultAt Fault.Input 0)
-
--- the number that the verdict must have: 9 where its row says, tested first, and else what the walk comes to, 0 for a pass
-unfoldable pub auditNumber : Script → List ℕ → ℕ
-auditNumber script ranges = cond (not (inputFits script ranges)) 9 (verdictNumber (walkOf script ranges))

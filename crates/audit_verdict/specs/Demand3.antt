@@ -1,5 +1,5 @@
 -- Demand 3: what a verdict of the auditor means for whole runs. One claim, `Demand3`, about every verdict.
-use Prim.Native.Nat.{ℕ, suc, _+_, _≤_}
+use Prim.Native.Nat.{ℕ, suc, _+_, _≤_, _<_}
 use mathlib.Core.Path.{_≡_}
 use mathlib.Core.Logic.{_⊎_}
 use mathlib.Core.Bool.{Bool, true, false}
@@ -125,16 +125,21 @@ module _ (script : Script) where
   abbrev pub runOf : Witness → Run
   runOf w = runFor (w .name) (w .log) (w .steps) (begun (w .start))
 
+  -- what the step after so many does, from any state under the same log
+  abbrev pub effectFrom : Witness → SlotName → State → Effect
+  effectFrom w name s = nextStep name (w .log) (runFor name (w .log) (w .steps) (begun s)) .effect
+
   -- its next step: what it did, and the run after it
   abbrev pub nextEffect : Witness → Effect
-  nextEffect w = nextStep (w .name) (w .log) (runOf w) .effect
+  nextEffect w = effectFrom w (w .name) (w .start)
 
   abbrev pub runAfter : Witness → Run
   runAfter w = runFor (w .name) (w .log) (suc (w .steps)) (begun (w .start))
 
-  -- some log brings a start to the place, and its next step has the effect
-  abbrev pub Shows : ℕ → (Effect → Type 0) → Type 0
-  Shows place P = (w : Witness) × (AtPlace (w .name) place (runOf w)) × (P (nextEffect w))
+  -- from every start that step writes at one address, so that the script has set ADDR
+  abbrev pub OneAddress : Witness → Type 0
+  OneAddress w = (address : ℕ) × ((name : SlotName) (s : State) → Start script name s
+      → (word : ℕ) × (effectFrom w name s ≡ Effect.Wrote (record { 0 = address }) word))
 
   -- two starts, one log, equally many steps: both at the place, and they write differently there
   pub record WriteDifferently (place : ℕ) (one two : Witness) : Type 0 where
@@ -189,32 +194,43 @@ module _ (script : Script) where
           → Holds (scriptScene script enable log) (slotAtEntry (script .entry) addr word) flags name s → validLog log ≡ true
           → EndsWell (endingOf (slotOf (fullRun name log s .state) name .mode))
 
+    -- "the first fault": on the way no start's run stops or meets an unknown opcode, all write the same, and only at listed addresses
+    pub record NoneBefore (w : Witness) : Type 0 where
+      pub orderly : (name : SlotName) (s : State) → Start script name s
+          → (n : ℕ) → n < w .steps → Orderly (nextStep name (w .log) (runFor name (w .log) n (begun s)) .effect)
+      pub same-writes : (name : SlotName) (s : State) → Start script name s → runFor name (w .log) (w .steps) (begun s) .writes ≡ runOf w .writes
+      pub listed : AllListed ranges (runOf w .writes)
+
+    -- some log brings a start to the place, with no fault before it, and there its run shows this
+    abbrev pub Shows : ℕ → (Witness → Type 0) → Type 0
+    Shows place P = (w : Witness) × (AtPlace (w .name) place (runOf w)) × (NoneBefore w) × (P w)
+
     -- what a fault means: a run that shows it
     abbrev pub FaultMeans : Fault → ℕ → Type 0
     -- 1: that step stops for a byte past the code RAM, at the opcode or in its operands
-    FaultMeans Fault.PastRam place = Shows place (λ e. (e ≡ Effect.Stopped Unreadable.Empty) ⊎ (e ≡ Effect.Stopped Unreadable.Short))
+    FaultMeans Fault.PastRam place =
+        Shows place (λ w. (nextEffect w ≡ Effect.Stopped Unreadable.Empty) ⊎ (nextEffect w ≡ Effect.Stopped Unreadable.Short))
     -- 2: it stops for a byte never uploaded
-    FaultMeans Fault.NotUploaded place = Shows place (λ e. e ≡ Effect.Stopped Unreadable.NotUploaded)
+    FaultMeans Fault.NotUploaded place = Shows place (λ w. nextEffect w ≡ Effect.Stopped Unreadable.NotUploaded)
     -- 3: it meets an unknown opcode
-    FaultMeans Fault.Unknown place = Shows place (λ e. e ≡ Effect.Unknown)
+    FaultMeans Fault.Unknown place = Shows place (λ w. nextEffect w ≡ Effect.Unknown)
     -- 4: two starts that differ only in ADDR write differently there
     FaultMeans Fault.NoAddress place =
-        (one : Witness) × (two : Witness) × (addr : ℕ) × (two .start ≡ withAddr (one .name) (one .start) addr) × (WriteDifferently place one two)
-    -- 5: two starts that differ only in DATA write differently there
-    FaultMeans Fault.HalfData place =
-        (one : Witness) × (two : Witness) × (word : ℕ) × (two .start ≡ withData (one .name) (one .start) word) × (WriteDifferently place one two)
-    -- 6: it writes outside every range
-    FaultMeans Fault.Outside place =
-        Shows place (λ e. (address : ℕ) × (word : ℕ) × (e ≡ Effect.Wrote (record { 0 = address }) word) × (listedIn ranges address ≡ false))
+        Shows place (λ one. (two : Witness) × (addr : ℕ) × (two .start ≡ withAddr (one .name) (one .start) addr) × (WriteDifferently place one two))
+    -- 5: two starts that differ only in DATA write differently there; not 4, which comes first
+    FaultMeans Fault.HalfData place = Shows place (λ one.
+        ((two : Witness) × (word : ℕ) × (two .start ≡ withData (one .name) (one .start) word) × (WriteDifferently place one two)) × (OneAddress one))
+    -- 6: it writes outside every range; neither 4 nor 5, which come first: every start writes this
+    FaultMeans Fault.Outside place = Shows place (λ w. (address : ℕ) × (word : ℕ) × (listedIn ranges address ≡ false)
+        × ((name : SlotName) (s : State) → Start script name s → effectFrom w name s ≡ Effect.Wrote (record { 0 = address }) word))
     -- 7: some log brings a run there, its step waits, and no log lets a run from any start fetch again after that step
-    FaultMeans Fault.Unreleased place =
-        ((w : Witness) × (AtPlace (w .name) place (runOf w)) × (slotOf (runAfter w .state) (w .name) .mode ≡ Mode.Waiting))
+    FaultMeans Fault.Unreleased place = (Shows place (λ w. slotOf (runAfter w .state) (w .name) .mode ≡ Mode.Waiting))
         × ((name : SlotName) (s : State) → Start script name s → (log : Log) → validLog log ≡ true
         → (n : ℕ) → AtPlace name place (runFor name log n (begun s))
         → (m : ℕ) → Fetchless (nextStep name log (runFor name log (suc (n + m)) (begun s)) .effect))
     -- 8: it exits there with memory paused
-    FaultMeans Fault.Paused place = (w : Witness) × (AtPlace (w .name) place (runOf w)) × (slotOf (runAfter w .state) (w .name) .mode ≡ Mode.Idle)
-        × (slotOf (runAfter w .state) (w .name) .ip .0 ≡ place) × (pausedOf (script .family) (runAfter w .state .flags) ≡ true)
+    FaultMeans Fault.Paused place = Shows place (λ w. (slotOf (runAfter w .state) (w .name) .mode ≡ Mode.Idle)
+        × (slotOf (runAfter w .state) (w .name) .ip .0 ≡ place) × (pausedOf (script .family) (runAfter w .state .flags) ≡ true))
     -- 9: its row applies, and its place is 0
     FaultMeans Fault.Input place = (inputFits script ranges ≡ false) × (place ≡ 0)
 

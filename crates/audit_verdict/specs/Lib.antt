@@ -1,4 +1,5 @@
 pub mod Auditor
+pub mod Numbers
 pub mod Start
 pub mod Demand3
 pub mod Witness

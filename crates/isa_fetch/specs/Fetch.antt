@@ -3,7 +3,7 @@
 use Prim.Native.Nat.{ℕ, zero, suc, _+_, _<_, _≤_}
 use mathlib.Core.Path.{_≡_}
 use mathlib.Core.Bool.{Bool, true, cond, not, _&&_}
-use mathlib.Core.List.{List}
+use mathlib.Core.List.{List, [], _∷_}
 use lib.ListN.{length, getD, take, drop}
 use lib.Dec.{leb, ltb, eqb}
 use Rattle.families.specs.Family.{codeSize, maxCode}
@@ -12,6 +12,7 @@ use Rattle.isa.specs.Reader.{decodeOf, decodedNumber}
 use Rattle.isa.specs.Writer.{operandsFit}
 use Rattle.isa.specs.declared.reader.Decoded.{Decoded}
 use Rattle.refusals.specs.declared.refusals.Unreadable.{Unreadable}
+use Rattle.refusals.specs.Listing.{Test, test, firstOf}
 
 -- the family's code RAM: bytes past its size are no part of it, whatever holds them
 abbrev pub codeRam : ℕ → List ℕ → List ℕ
@@ -37,18 +38,22 @@ fetchOf family code marks at =
     (Decoded.Refused Unreadable.NotUploaded))
     (Decoded.Refused Unreadable.Empty)
 
--- which number its answer must have: the opcode past the code RAM (1), never uploaded (2) or unknown (3), then an operand past the code RAM (1) or never
--- uploaded (2), tested in this order; a family that there is not has no code RAM
-unfoldable pub fetchRefusal : ℕ → List ℕ → List ℕ → ℕ → ℕ
-fetchRefusal family code marks at =
+-- its tests, in the order of 01: the opcode past the code RAM, never uploaded or unknown, then an operand past the code RAM or never uploaded; a family that
+-- there is not has no code RAM
+abbrev pub fetchTests : ℕ → List ℕ → List ℕ → ℕ → List Test
+fetchTests family code marks at =
     let ram = codeRam family code in
     let opcode = opcodeAt family (getD ram at 0) in
-    cond (leb (length ram) at) 1
-    (cond (not (eqb (getD marks at 0) 1)) 2
-    (cond (isUnknownOpcode opcode) 3
-    (cond (ltb (length ram) (at + sizeOf opcode)) 1
-    (cond (not (allMarked (sizeOf opcode) marks at)) 2
-    0))))
+    test (leb (length ram) at) 1
+    ∷ test (not (eqb (getD marks at 0) 1)) 2
+    ∷ test (isUnknownOpcode opcode) 3
+    ∷ test (ltb (length ram) (at + sizeOf opcode)) 1
+    ∷ test (not (allMarked (sizeOf opcode) marks at)) 2
+    ∷ []
+
+-- which number its answer must have
+unfoldable pub fetchRefusal : ℕ → List ℕ → List ℕ → ℕ → ℕ
+fetchRefusal family code marks at = firstOf (fetchTests family code marks at)
 
 -- why nothing was fetched; an instruction has no reason, and stands for an empty place
 abbrev pub reasonOf : Decoded → Unreadable

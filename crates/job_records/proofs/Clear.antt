@@ -11,7 +11,8 @@ use Rattle.machine_execution.specs.Execution.{someSlotExecutes}
 use Rattle.isa.proofs.Tests.{both-left, both-right}
 use Rattle.machine_state.specs.declared.state.State.{State}
 use Rattle.job_records.specs.Records.{kindOf}
-use Rattle.job_records.specs.Refusals.{isCutShort, isTooMany, isBadRange, isBadRow, endsIdle, Test, firstOf, listing, refusalOf}
+use Rattle.job_records.specs.Refusals.{isCutShort, isTooMany, isBadRange, isBadRow, endsIdle, listing, refusalOf}
+use Rattle.refusals.specs.Listing.{Test, firstOf}
 use Rattle.job_records.specs.Words.{byteAt}
 use Rattle.job_records.specs.declared.contents.Counts.{Counts}
 

@@ -21,7 +21,8 @@ use Rattle.job_records.specs.Inside.{shapeNumber, unlessRefused}
 use Rattle.job_records.specs.Job.{stateAfter, boundsAfter, columnAfter}
 use Rattle.job_records.specs.Records.{kindOf, isOutOfOrder}
 use Rattle.job_records.specs.Refusals.{isUnknown, isCutShort, isTooMany, isBadFamily, isBadRange, writeNumber, isBadRow, hasBytesAfter, endsIdle}
-use Rattle.job_records.specs.Refusals.{Test, when, firstOf, refusalOf}
+use Rattle.job_records.specs.Refusals.{refusalOf}
+use Rattle.refusals.specs.Listing.{Test, test, firstOf}
 use Rattle.job_records.specs.Words.{byteAt, wordAt, longAt}
 use Rattle.job_records.specs.declared.contents.Counts.{Counts}
 use Rattle.job_records.specs.declared.kinds.Kind.{Kind}
@@ -53,13 +54,13 @@ passed false false false false e = record { unknown = refl; short = refl; order 
 -- the tests that ask for a kind
 abbrev ownTests : List ℕ → State → List Test
 ownTests rest s =
-    when (isBadFamily rest) 25
-    ∷ when (isBadRange rest) 26
-    ∷ when (eqb (writeNumber rest s) 27) 27
-    ∷ when (eqb (writeNumber rest s) 28) 28
-    ∷ when (isBadRow rest) 30
-    ∷ when (hasBytesAfter rest) 24
-    ∷ when (endsIdle rest s) 32
+    test (isBadFamily rest) 25
+    ∷ test (isBadRange rest) 26
+    ∷ test (eqb (writeNumber rest s) 27) 27
+    ∷ test (eqb (writeNumber rest s) 28) 28
+    ∷ test (isBadRow rest) 30
+    ∷ test (hasBytesAfter rest) 24
+    ∷ test (endsIdle rest s) 32
     ∷ []
 
 -- a record of this kind

@@ -11,7 +11,8 @@ use Rattle.machine_state.specs.declared.state.State.{State}
 use Rattle.job_records.specs.Job.{emptyJob, stateAfter, boundsAfter, columnAfter}
 use Rattle.job_records.specs.Reader.{readIn, Sound}
 use Rattle.job_records.specs.Records.{kindOf, isOutOfOrder}
-use Rattle.job_records.specs.Refusals.{when, firstOf, isUnknown, isCutShort, isTooMany, refusalOf}
+use Rattle.job_records.specs.Refusals.{isUnknown, isCutShort, isTooMany, refusalOf}
+use Rattle.refusals.specs.Listing.{test, firstOf}
 use Rattle.job_records.specs.Started.{Started}
 use Rattle.job_records.specs.Words.{byteAt, wordAt, longAt}
 use Rattle.job_records.specs.declared.contents.Counts.{Counts}
@@ -22,7 +23,7 @@ use Rattle.job_records.specs.declared.by_kind.StateRead.{StateRead}
 abbrev pub shapeNumber : List ℕ → ℕ → Counts → ℕ
 shapeNumber rest byte counts =
     let kind = kindOf counts byte in
-    firstOf (when (isUnknown rest kind) 21 ∷ when (isCutShort rest kind) 20 ∷ when (isOutOfOrder (counts .rank) kind) 22 ∷ when (isTooMany kind) 23 ∷ [])
+    firstOf (test (isUnknown rest kind) 21 ∷ test (isCutShort rest kind) 20 ∷ test (isOutOfOrder (counts .rank) kind) 22 ∷ test (isTooMany kind) 23 ∷ [])
 
 -- the number that the listing gives the record, whatever the state
 abbrev pub Tested : List ℕ → Counts → ℕ → Type 0

@@ -6,6 +6,7 @@ use mathlib.Core.List.{List, [], _∷_}
 use lib.Dec.{leb, ltb, eqb}
 use lib.ListN.{length}
 use Rattle.families.specs.Family.{knownFamily}
+use Rattle.refusals.specs.Listing.{Test, test, firstOf}
 use Rattle.log.specs.Validity.{clocksInRange}
 use Rattle.host_registers.specs.Access.{writeOf}
 use Rattle.machine_execution.specs.Execution.{someSlotExecutes}
@@ -52,34 +53,21 @@ hasBytesAfter rest = eqb (byteAt rest 0) end && ltb 1 (length rest)
 unfoldable pub endsIdle : List ℕ → State → Bool
 endsIdle rest s = eqb (byteAt rest 0) end && not (someSlotExecutes s)
 
--- a test that a record may fail, and the refusal's number
-pub record Test : Type 0 where
-  pub fails : Bool
-  pub number : ℕ
-
-abbrev pub when : Bool → ℕ → Test
-when fails number = record { fails = fails; number = number }
-
--- one record with several refusals: the first in the listing; 0 where there is none
-abbrev pub firstOf : List Test → ℕ
-firstOf [] = 0
-firstOf (test ∷ later) = cond (test .fails) (test .number) (firstOf later)
-
--- 01's listing, in its order
+-- 01's listing, in its order: of one record with several refusals the first counts
 abbrev pub listing : List ℕ → Counts → State → List Test
 listing rest counts s =
     let kind = kindOf counts (byteAt rest 0) in
-    when (isUnknown rest kind) 21
-    ∷ when (isCutShort rest kind) 20
-    ∷ when (isOutOfOrder (counts .rank) kind) 22
-    ∷ when (isTooMany kind) 23
-    ∷ when (isBadFamily rest) 25
-    ∷ when (isBadRange rest) 26
-    ∷ when (eqb (writeNumber rest s) 27) 27
-    ∷ when (eqb (writeNumber rest s) 28) 28
-    ∷ when (isBadRow rest) 30
-    ∷ when (hasBytesAfter rest) 24
-    ∷ when (endsIdle rest s) 32
+    test (isUnknown rest kind) 21
+    ∷ test (isCutShort rest kind) 20
+    ∷ test (isOutOfOrder (counts .rank) kind) 22
+    ∷ test (isTooMany kind) 23
+    ∷ test (isBadFamily rest) 25
+    ∷ test (isBadRange rest) 26
+    ∷ test (eqb (writeNumber rest s) 27) 27
+    ∷ test (eqb (writeNumber rest s) 28) 28
+    ∷ test (isBadRow rest) 30
+    ∷ test (hasBytesAfter rest) 24
+    ∷ test (endsIdle rest s) 32
     ∷ []
 
 unfoldable pub refusalOf : List ℕ → Counts → State → ℕ

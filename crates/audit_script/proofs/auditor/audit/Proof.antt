@@ -13,7 +13,8 @@ use Rattle.audit_verdict.specs.Demand3.{Demand3}
 use Rattle.audit_verdict.specs.Witness.{Witnessed}
 use Rattle.audit_script.specs.Promises.{Audits}
 use Rattle.audit_verdict.specs.declared.verdicts.Verdict.{Verdict}
-use Rattle.audit_verdict.proofs.Claim.{audit-numbered, demand3, audit-witnessed}
+use Rattle.audit_verdict.proofs.Claim.{demand3, audit-witnessed}
+use Rattle.audit_verdict.proofs.FirstFault.{audit-numbered}
 use Rattle.audit_verdict.proofs.Table.{starred}
 use Rattle.audit_script.proofs.auditor.audit.Statement.{statement}
 use Rattle.audit_script.proofs.auditor.audit.Tie as tie
