@@ -16,11 +16,11 @@ either true = inl refl
 either false = inr refl
 
 -- a test of every number below n, which antt computes where n is a numeral
-abbrev below : ℕ → (ℕ → Bool) → Bool
-below zero f = true
-below (suc n) f = f 0 && below n (λ i. f (suc i))
+abbrev allBelow : ℕ → (ℕ → Bool) → Bool
+allBelow zero f = true
+allBelow (suc n) f = f 0 && allBelow n (λ i. f (suc i))
 
-pub below-at : (n : ℕ) (f : ℕ → Bool) → below n f ≡ true → (i : ℕ) → i < n → f i ≡ true
+pub below-at : (n : ℕ) (f : ℕ → Bool) → allBelow n f ≡ true → (i : ℕ) → i < n → f i ≡ true
 below-at zero f t i h = absurd (omega arith)
 below-at (suc n) f t zero h = both-left (f 0) _ t
 below-at (suc n) f t (suc i) h = below-at n (λ j. f (suc j)) (both-right (f 0) _ t) i (omega arith)

@@ -51,7 +51,7 @@ use Rattle.audit_verdict.proofs.Judging.{heldAddr, poke-addr, Blame}
 use Rattle.audit_verdict.proofs.Walk.{Walk, actionsOf, walk-counts, walk-writes, Ends, at-refused, at-bad, at-exit}
 use Rattle.audit_verdict.proofs.Agreement.{Agree}
 use Rattle.audit_verdict.proofs.Soundness.{Exited, exit-step}
-use Rattle.audit_verdict.proofs.WitnessRun.{witnessRows, witnessLog, Unheld, Arrived, reach}
+use Rattle.audit_verdict.proofs.WitnessRun.{witnessRows, witnessLog, Unheld, Arrived, arrives}
 use Rattle.audit_verdict.proofs.SameWrites.{Same, same-through, orderly-through}
 use Rattle.audit_verdict.proofs.WitnessLog.{witness-few, witness-valid, witness-masks}
 use Rattle.audit_verdict.proofs.Starts.{begun-agrees, slot-follows, effect-follows, start-addr, start-data}
@@ -117,10 +117,10 @@ module _ {x : Script} {ranges : List ℕ} (fit : Auditable x) {q : ℕ} {k : Kno
     slot-run = slotRunFor scene steps (slotBegun (slotOf s name) (s .flags))
 
     arrived : Arrived x ranges log (slotOf s name .addr .0) (slotOf s name .«data») q k (length (witnessRows w)) slot-run
-    arrived = reach w (begun-agrees start) .1
+    arrived = arrives w (begun-agrees start) .1
 
     unheld : Unheld log w (slotBegun (slotOf s name) (s .flags))
-    unheld = reach w (begun-agrees start) .0
+    unheld = arrives w (begun-agrees start) .0
 
     agrees : Agree x ranges (slotOf s name .addr .0) (slotOf s name .«data») q k slot-run
     agrees = arrived .agrees
@@ -206,11 +206,11 @@ module _ {x : Script} {ranges : List ℕ} (fit : Auditable x) {q : ℕ} {k : Kno
 
   -- ---- two starts that write differently
 
-  differ : {name : SlotName} {s s′ : State} (one : Start x name s) (two : Start x name s′) {address word address′ word′ : ℕ}
+  two-writes : {name : SlotName} {s s′ : State} (one : Start x name s) (two : Start x name s′) {address word address′ word′ : ℕ}
       → effect one ≡ Effect.Wrote (record { 0 = address }) word → effect two ≡ Effect.Wrote (record { 0 = address′ }) word′
       → (address ≡ address′ → word ≡ word′ → ⊥)
       → WriteDifferently x q (witness one) (witness two)
-  differ one two writes writes′ apart = record {
+  two-writes one two writes writes′ apart = record {
     same-slot = refl;
     same-log = refl;
     same-steps = refl;
@@ -238,7 +238,7 @@ module _ {x : Script} {ranges : List ℕ} (fit : Auditable x) {q : ℕ} {k : Kno
         let h = own-addr two operand e unset in
         let low : g .0 / 65536 ≡ 0 = g .3 ∙ ap (λ (slot : Slot). slot .addr .0 / 65536) (slot-back name s _ (s .flags)) in
         let high : h .0 / 65536 ≡ 1 = h .3 ∙ ap (λ (slot : Slot). slot .addr .0 / 65536) (slot-back name s _ (s .flags)) in
-        (one, two, differ one two (g .2) (h .2) (λ same _. omega (arith, low, high)))
+        (one, two, two-writes one two (g .2) (h .2) (λ same _. omega (arith, low, high)))
 
     data-differs : {m : ℕ} (part : Part) (operand : ℕ) → Reads x q (Action.Poke part operand) m → k .«data» ≡ false
         → DifferIn name (withData name s 0) (withData name s 65536)
@@ -249,7 +249,7 @@ module _ {x : Script} {ranges : List ℕ} (fit : Auditable x) {q : ℕ} {k : Kno
         let h = own-data two part operand e half in
         let low : g .1 / 65536 ≡ 0 = g .3 ∙ ap (λ (slot : Slot). slot .«data» / 65536) (slot-back name s _ (s .flags)) in
         let high : h .1 / 65536 ≡ 1 = h .3 ∙ ap (λ (slot : Slot). slot .«data» / 65536) (slot-back name s _ (s .flags)) in
-        (one, two, differ one two (g .2) (h .2) (λ _ same. omega (arith, low, high)))
+        (one, two, two-writes one two (g .2) (h .2) (λ _ same. omega (arith, low, high)))
 
     -- ---- the next step
 

@@ -200,11 +200,11 @@ module _ {x : Script} {ranges : List ℕ} (log : List Row) where
       )
 
 -- a start, under the log made for a walk from it, is held up nowhere and comes to where the walk ends
-pub reach : {x : Script} {ranges : List ℕ} {entry q : ℕ} {l : Knowledge} (w : Walk x ranges entry knowNothing q l)
+pub arrives : {x : Script} {ranges : List ℕ} {entry q : ℕ} {l : Knowledge} (w : Walk x ranges entry knowNothing q l)
     → {addr word : ℕ} {slot : Slot} {flags : Flags} → Agree x ranges addr word entry knowNothing (slotBegun slot flags)
     → (Unheld (witnessLog w) w (slotBegun slot flags)) × (Arrived x ranges (witnessLog w) addr word q l (length (witnessRows w))
     (slotRunFor (sceneUnder x (witnessLog w)) (length (actionsOf w)) (slotBegun slot flags)))
-reach w g =
+arrives w g =
     let r = reach-on (witnessRows w) w firstRow g (record { ahead = refl; used = refl }) in
     let a = r .1 in
     (r .0, record { agrees = a .agrees; one-left = a .one-left; passed-by = omega (arith, a .passed-by) })

@@ -21,7 +21,7 @@ use Rattle.log.proofs.Columns.{Room, SameLengths, rows-lengths, rows-more}
 use Rattle.machine_actions.specs.Action.{actionOf}
 use Rattle.machine_actions.specs.declared.actions.Action.{Action}
 use Rattle.machine_actions.specs.declared.actions.Part.{Part}
-use Rattle.machine_actions.proofs.Variants.{none}
+use Rattle.machine_actions.proofs.Variants.{no-such}
 use Rattle.machine_actions.proofs.actions.Action.{the-type as action-type}
 use Rattle.script.specs.Script.{Script, fetchAt}
 use Rattle.script.specs.Input.{scriptFits, rangesFit, inputFits}
@@ -65,11 +65,11 @@ module _ (made : Timeline) (old : Log) {answer : Timeline} where
 
   pub extends-other : (action : Action) → OneOf (2 ∷ 3 ∷ 5 ∷ []) (tagOf action-type action)
       → answer ≡ stepped made (made .row) (made .before) (made .writes) → Extends action made old old answer
-  extends-other (Action.Wait n) h told = none (2 ∷ 3 ∷ 5 ∷ []) 0 tt h
-  extends-other (Action.Ewait event value) h told = none (2 ∷ 3 ∷ 5 ∷ []) 1 tt h
+  extends-other (Action.Wait n) h told = no-such (2 ∷ 3 ∷ 5 ∷ []) 0 tt h
+  extends-other (Action.Ewait event value) h told = no-such (2 ∷ 3 ∷ 5 ∷ []) 1 tt h
   extends-other (Action.Flag change flag) h told = rw told (record { made-is = simp add-zero; put = refl })
   extends-other (Action.Load part word) h told = rw told (record { made-is = simp add-zero; put = refl })
-  extends-other (Action.Poke part word) h told = none (2 ∷ 3 ∷ 5 ∷ []) 4 tt h
+  extends-other (Action.Poke part word) h told = no-such (2 ∷ 3 ∷ 5 ∷ []) 4 tt h
   extends-other Action.Exit h told = rw told (record { made-is = simp add-zero; put = refl })
 
 -- ---- the walk to the place, one instruction at a time

@@ -9,11 +9,11 @@ use native.Mathlib.Omega.{arith}
 use Rattle.isa.specs.Reader.{leNumber, operand}
 use Rattle.isa.specs.Writer.{leBytes}
 
-pub two : (bytes : List ℕ) → getD bytes 1 0 + 256 * getD bytes 2 0 ≡ operand 2 bytes
-two [] = refl
-two (x ∷ []) = refl
-two (x ∷ y ∷ []) = refl
-two (x ∷ y ∷ z ∷ bytes) = omega arith
+pub two-bytes : (bytes : List ℕ) → getD bytes 1 0 + 256 * getD bytes 2 0 ≡ operand 2 bytes
+two-bytes [] = refl
+two-bytes (x ∷ []) = refl
+two-bytes (x ∷ y ∷ []) = refl
+two-bytes (x ∷ y ∷ z ∷ bytes) = omega arith
 
 pub four : (bytes : List ℕ) → getD bytes 1 0 + 256 * getD bytes 2 0 + 65536 * getD bytes 3 0 + 16777216 * getD bytes 4 0 ≡ operand 4 bytes
 four [] = refl

@@ -19,7 +19,7 @@ use Rattle.isa.specs.declared.encoding.Encoded.{Encoded}
 use Rattle.isa.proofs.Tests.{cond-elim, bounds}
 use Rattle.isa.proofs.Bytes.{respell, reread}
 use Rattle.isa.proofs.Opcode as op
-use Rattle.isa.proofs.Reading.{whole}
+use Rattle.isa.proofs.Reading.{all-there}
 use Rattle.isa.proofs.Writing.{written, wait-fits}
 
 -- ---- what was read has one spelling
@@ -73,8 +73,8 @@ abbrev AreBytes : List ℕ → Type 0
 AreBytes bs = (j : ℕ) → getD bs j 0 < 256
 
 -- an instruction that its first byte holds whole
-one : (f : ℕ) (i : Instruction) (x : ℕ) (xs : List ℕ) → spell i ≡ x ∷ [] → onFamily f (opcodeOf i) ≡ true → operandsFit i ≡ true → Spelled f (x ∷ xs) i 1
-one f i x xs e o w = record { bytes = e; on = o; fit = w; width = ap length e; some = omega arith; room = omega arith }
+one-byte : (f : ℕ) (i : Instruction) (x : ℕ) (xs : List ℕ) → spell i ≡ x ∷ [] → onFamily f (opcodeOf i) ≡ true → operandsFit i ≡ true → Spelled f (x ∷ xs) i 1
+one-byte f i x xs e o w = record { bytes = e; on = o; fit = w; width = ap length e; some = omega arith; room = omega arith }
 
 -- a first byte and a number of n bytes after it
 word : (n b x : ℕ) (xs : List ℕ) → x ≡ b → n ≤ length xs → AreBytes (x ∷ xs) → b ∷ leBytes n (leNumber (take n xs)) ≡ x ∷ take n xs
@@ -83,7 +83,7 @@ word n b x xs e h a = ap₂ (λ (y : ℕ) (ys : List ℕ). y ∷ ys) (sym e) (re
 read-spelled : (f : ℕ) (k : Opcode) (bs : List ℕ) → FirstByte f k (getD bs 0 0) → AreBytes bs → sizeOf k ≤ length bs → SpelledAs f bs (readAs k bs)
 read-spelled f Opcode.Wait [] r a h = absurd (omega arith)
 read-spelled f Opcode.Wait (x ∷ xs) r a h =
-    one f (Instruction.Wait (x % 4) (x / 4)) x xs (ap (λ (y : ℕ). y ∷ []) (omega arith)) refl (simp (
+    one-byte f (Instruction.Wait (x % 4) (x / 4)) x xs (ap (λ (y : ℕ). y ∷ []) (omega arith)) refl (simp (
       le-leb (x % 4) 3 (omega arith),
       le-leb (x / 4) 15 (omega arith),
     ))
@@ -99,16 +99,16 @@ read-spelled f Opcode.Ewait (x ∷ y ∷ []) r a h = absurd (omega arith)
 read-spelled f Opcode.Ewait (x ∷ y ∷ z ∷ xs) r a h =
     record { bytes = ap (λ (w : ℕ). w ∷ y ∷ z ∷ []) (sym (r .0)); on = r .1; fit = refl; width = refl; some = omega arith; room = h }
 read-spelled f Opcode.Exit [] r a h = absurd (omega arith)
-read-spelled f Opcode.Exit (x ∷ xs) r a h = one f Instruction.Exit x xs (ap (λ (y : ℕ). y ∷ []) (sym r)) refl refl
+read-spelled f Opcode.Exit (x ∷ xs) r a h = one-byte f Instruction.Exit x xs (ap (λ (y : ℕ). y ∷ []) (sym r)) refl refl
 read-spelled f Opcode.Unset [] r a h = absurd (omega arith)
 read-spelled f Opcode.Unset (x ∷ xs) r a h =
-    one f (Instruction.Unset (x % 32)) x xs (ap (λ (y : ℕ). y ∷ []) (omega arith)) refl (le-leb (x % 32) 31 (omega arith))
+    one-byte f (Instruction.Unset (x % 32)) x xs (ap (λ (y : ℕ). y ∷ []) (omega arith)) refl (le-leb (x % 32) 31 (omega arith))
 read-spelled f Opcode.Set1 [] r a h = absurd (omega arith)
 read-spelled f Opcode.Set1 (x ∷ xs) r a h =
-    one f (Instruction.Set1 (x % 32)) x xs (ap (λ (y : ℕ). y ∷ []) (omega arith)) refl (le-leb (x % 32) 31 (omega arith))
+    one-byte f (Instruction.Set1 (x % 32)) x xs (ap (λ (y : ℕ). y ∷ []) (omega arith)) refl (le-leb (x % 32) 31 (omega arith))
 read-spelled f Opcode.Set0 [] r a h = absurd (omega arith)
 read-spelled f Opcode.Set0 (x ∷ xs) r a h =
-    one f (Instruction.Set0 (x % 32)) x xs (ap (λ (y : ℕ). y ∷ []) (omega arith)) refl (le-leb (x % 32) 31 (omega arith))
+    one-byte f (Instruction.Set0 (x % 32)) x xs (ap (λ (y : ℕ). y ∷ []) (omega arith)) refl (le-leb (x % 32) 31 (omega arith))
 read-spelled f Opcode.Addr [] r a h = absurd (omega arith)
 read-spelled f Opcode.Addr (x ∷ xs) r a h =
     record { bytes = word 4 0xe0 x xs (r .0) (omega arith) a; on = r .1; fit = refl; width = refl; some = omega arith; room = h }
@@ -150,20 +150,20 @@ pub record Writable (f : ℕ) (i : Instruction) : Type 0 where
   pub in-type : InType i
 
 -- on a family that has it, a later opcode stands for itself
-kept : (f : ℕ) (k : Opcode) → leb 2 f ≡ true → k ≡ laterOnly f k
-kept f k e = simp e
+known-later : (f : ℕ) (k : Opcode) → leb 2 f ≡ true → k ≡ laterOnly f k
+known-later f k e = simp e
 
 opcode-back : (f : ℕ) (i : Instruction) → onFamily f (opcodeOf i) ≡ true → operandsFit i ≡ true → opcodeOf i ≡ opcodeAt f (getD (spell i) 0 0)
 opcode-back f (Instruction.Wait l s) o w = op.wait f (l + 4 * s) (omega (arith, wait-fits l s w))
-opcode-back f (Instruction.AddrLo a) o w = kept f Opcode.AddrLo o ∙ op.addr-lo f 0x40 refl
-opcode-back f (Instruction.DataLo d) o w = kept f Opcode.DataLo o ∙ op.data-lo f 0x42 refl
-opcode-back f (Instruction.Ewait e v) o w = kept f Opcode.Ewait o ∙ op.ewait f 0x5f refl
+opcode-back f (Instruction.AddrLo a) o w = known-later f Opcode.AddrLo o ∙ op.addr-lo f 0x40 refl
+opcode-back f (Instruction.DataLo d) o w = known-later f Opcode.DataLo o ∙ op.data-lo f 0x42 refl
+opcode-back f (Instruction.Ewait e v) o w = known-later f Opcode.Ewait o ∙ op.ewait f 0x5f refl
 opcode-back f Instruction.Exit o w = op.exit f 0x7f refl
 opcode-back f (Instruction.Unset n) o w = op.unset f (0x80 + n) (omega arith) (omega (arith, leb-true n 31 w))
 opcode-back f (Instruction.Set1 n) o w = op.set1 f (0xa0 + n) (omega arith) (omega (arith, leb-true n 31 w))
 opcode-back f (Instruction.Set0 n) o w = op.set0 f (0xc0 + n) (omega arith) (omega (arith, leb-true n 31 w))
-opcode-back f (Instruction.Addr a) o w = kept f Opcode.Addr o ∙ op.addr f 0xe0 refl
-opcode-back f (Instruction.Data d) o w = kept f Opcode.Data o ∙ op.data32 f 0xe2 refl
+opcode-back f (Instruction.Addr a) o w = known-later f Opcode.Addr o ∙ op.addr f 0xe0 refl
+opcode-back f (Instruction.Data d) o w = known-later f Opcode.Data o ∙ op.data32 f 0xe2 refl
 
 operands-back : (i : Instruction) (after : List ℕ) → operandsFit i ≡ true → InType i
     → readAs (opcodeOf i) (spell i ++ after) ≡ Decoded.Instruction i (length (spell i))
@@ -201,5 +201,5 @@ front (Instruction.Data d) after = (omega arith, omega arith, refl)
 pub reads-back : (f : ℕ) (i : Instruction) (after : List ℕ) → Writable f i → decodeOf f (spell i ++ after) ≡ Decoded.Instruction i (length (spell i))
 reads-back f i after w =
     let s = front i after in
-    sym (whole f (spell i ++ after) (opcodeOf i) (w .family) (s .1) (opcode-back f i (w .on) (w .fit) ∙ ap (opcodeAt f) (s .2)) (s .0))
+    sym (all-there f (spell i ++ after) (opcodeOf i) (w .family) (s .1) (opcode-back f i (w .on) (w .fit) ∙ ap (opcodeAt f) (s .2)) (s .0))
     ∙ operands-back i after (w .fit) (w .in-type)

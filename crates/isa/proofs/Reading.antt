@@ -13,7 +13,7 @@ use Rattle.isa.specs.Reader.{readAs, decodeOf, decodedNumber, decodeRefu
 use Rattle.isa.specs.declared.opcodes.Opcode.{Opcode}
 use Rattle.isa.specs.declared.reader.Decoded.{Decoded}
 use Rattle.refusals.specs.declared.refusals.Unreadable.{Unreadable}
-use Rattle.isa.proofs.Bytes.{two, four}
+use Rattle.isa.proofs.Bytes.{two-bytes, four}
 use Rattle.isa.proofs.Tests.{cond-elim}
 
 module _ (f : ℕ) (bs : List ℕ) where
@@ -30,15 +30,15 @@ module _ (f : ℕ) (bs : List ℕ) where
     unfolding decodeOf
     short l = simp (u, le-leb 1 (length bs) h, ← e, lt-leb (sizeOf k) (length bs) l)
 
-    pub whole : sizeOf k ≤ length bs → readAs k bs ≡ decodeOf f bs
+    pub all-there : sizeOf k ≤ length bs → readAs k bs ≡ decodeOf f bs
     unfolding decodeOf
-    whole l = simp (u, le-leb 1 (length bs) h, ← e, le-leb (sizeOf k) (length bs) l)
+    all-there l = simp (u, le-leb 1 (length bs) h, ← e, le-leb (sizeOf k) (length bs) l)
 
 -- a reading depends on the bytes that it takes
 pub same-read : (k : Opcode) (bytes other : List ℕ) → ((i : ℕ) → i < sizeOf k → getD other i 0 ≡ getD bytes i 0) → readAs k other ≡ readAs k bytes
 same-read Opcode.Wait bytes other h = rw (h 0 (omega arith))
-same-read Opcode.AddrLo bytes other h = rw (← two other, ← two bytes, h 1 (omega arith), h 2 (omega arith))
-same-read Opcode.DataLo bytes other h = rw (← two other, ← two bytes, h 1 (omega arith), h 2 (omega arith))
+same-read Opcode.AddrLo bytes other h = rw (← two-bytes other, ← two-bytes bytes, h 1 (omega arith), h 2 (omega arith))
+same-read Opcode.DataLo bytes other h = rw (← two-bytes other, ← two-bytes bytes, h 1 (omega arith), h 2 (omega arith))
 same-read Opcode.Ewait bytes other h = rw (h 1 (omega arith), h 2 (omega arith))
 same-read Opcode.Exit bytes other h = refl
 same-read Opcode.Unset bytes other h = rw (h 0 (omega arith))

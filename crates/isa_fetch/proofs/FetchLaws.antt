@@ -57,8 +57,8 @@ module _ (family : ℕ) (code marks code′ marks′ : List ℕ) (room : codeSiz
   abbrev ram′ : List ℕ
   ram′ = codeRam family code′
 
-  size : length ram ≡ codeSize family
-  size = length-take (codeSize family) code ∙ omega arith
+  ram-size : length ram ≡ codeSize family
+  ram-size = length-take (codeSize family) code ∙ omega arith
 
   size′ : length ram′ ≡ codeSize family
   size′ = length-take (codeSize family) code′ ∙ omega arith
@@ -70,7 +70,7 @@ module _ (family : ℕ) (code marks code′ marks′ : List ℕ) (room : codeSiz
 
   module _ (at : ℕ) (inside : at < codeSize family) (marked : getD marks at 0 ≡ 1) where
     same-length : length (drop at ram) ≡ length (drop at ram′)
-    same-length = omega (arith, size, size′, length-drop at ram, length-drop at ram′)
+    same-length = omega (arith, ram-size, size′, length-drop at ram, length-drop at ram′)
 
     same-byte : (j : ℕ) → at + j < codeSize family → getD marks (at + j) 0 ≡ 1 → getD (drop at ram′) j 0 ≡ getD (drop at ram) j 0
     same-byte j h m =
@@ -84,7 +84,7 @@ module _ (family : ℕ) (code marks code′ marks′ : List ℕ) (room : codeSiz
     same-checked : (k : Opcode) → sizeOf k ≤ length (drop at ram)
         → checkMarks marks′ at (readAs k (drop at ram′)) ≡ checkMarks marks at (readAs k (drop at ram))
     same-checked k h =
-        let l : at + sizeOf k ≤ codeSize family = omega (arith, size, length-drop at ram) in
+        let l : at + sizeOf k ≤ codeSize family = omega (arith, ram-size, length-drop at ram) in
         let same = same-marked (sizeOf k) at l in
         rw (read-checked k (drop at ram′) marks′ at, read-checked k (drop at ram) marks at)
         (ap (cond (isUnknownOpcode k) (Decoded.Refused Unreadable.Unknown))
@@ -105,7 +105,7 @@ module _ (family : ℕ) (code marks code′ marks′ : List ℕ) (room : codeSiz
   pub same-fetch : (at : ℕ) → fetchOf family code′ marks′ at ≡ fetchOf family code marks at
   unfolding fetchOf
   same-fetch at =
-      same-test _ (ap (ltb at) (size′ ∙ sym size))
+      same-test _ (ap (ltb at) (size′ ∙ sym ram-size))
       (λ l. let h : at < codeSize family = omega (arith, size′, ltb-true at (length ram′) l) in
       same-test _ (same-marks at h)
       (λ m. same-decoded at h (eqb-true (getD marks at 0) 1 (sym (same-marks at h) ∙ m))))

@@ -14,7 +14,7 @@ use Rattle.isa.specs.Opcode.{opcodeAt, sizeOf, isUnknownOpcode}
 use Rattle.isa.specs.Reader.{readAs, decodeOf, decodedNumber}
 use Rattle.isa.specs.declared.opcodes.Opcode.{Opcode}
 use Rattle.isa.specs.declared.reader.Decoded.{Decoded}
-use Rattle.isa.proofs.Reading.{read-number, long-known, short, whole}
+use Rattle.isa.proofs.Reading.{read-number, long-known, short, all-there}
 use Rattle.isa.proofs.Tests.{cond-elim, by-no-family}
 use Rattle.isa_fetch.specs.Fetch.{codeRam, allMarked, checkMarks, fetchOf, fetchRefusal}
 use Rattle.isa_fetch.proofs.Marks.{read-checked}
@@ -44,7 +44,7 @@ module _ (family : ℕ) (marks : List ℕ) (at : ℕ) (bytes : List ℕ) (k : Op
   checked-number =
       elim (leb (sizeOf k) (length bytes)) as (λ b. leb (sizeOf k) (length bytes) ≡ b → Numbered) [
         | true ↦ λ l. let fits = leb-true (sizeOf k) (length bytes) l in
-            ap (λ (d : Decoded). decodedNumber (checkMarks marks at d)) (sym (whole family bytes k u h e fits))
+            ap (λ (d : Decoded). decodedNumber (checkMarks marks at d)) (sym (all-there family bytes k u h e fits))
             ∙ checked-read marks at bytes k
             ∙ simp (le-ltb (length bytes) (sizeOf k) fits)
         | false ↦ λ l. let cut = leb-false (sizeOf k) (length bytes) l in

@@ -82,9 +82,9 @@ module _ (rest : List ℕ) (counts : Counts) (k : ℕ) (is : byteAt rest 0 ≡ k
     tests : Passed (isUnknown rest kind) (isCutShort rest kind) (isOutOfOrder (counts .rank) kind) (isTooMany kind)
     tests = passed (isUnknown rest kind) (isCutShort rest kind) (isOutOfOrder (counts .rank) kind) (isTooMany kind) fine
 
-    pub whole : 1 + kind .body ≤ length rest
+    pub whole-body : 1 + kind .body ≤ length rest
     unfolding isCutShort
-    whole = ltb-false _ _ (tests .short)
+    whole-body = ltb-false _ _ (tests .short)
 
     pub has-room : kind .read < kind .most
     unfolding isTooMany
@@ -108,7 +108,7 @@ module _ (rest : List ℕ) (counts : Counts) where
   module _ (is : byteAt rest 0 ≡ 4) (fine : shapeNumber rest 4 counts ≡ 0) where
     pub family-fits : 2 ≤ length rest
     unfolding kindOf
-    family-fits = whole rest counts 4 is fine
+    family-fits = whole-body rest counts 4 is fine
 
     pub family-own : (s : State) → refusalOf rest counts s ≡ cond (not (knownFamily (byteAt rest 1))) 25 0
     unfolding isBadFamily isBadRange writeNumber isBadRow hasBytesAfter endsIdle
@@ -117,7 +117,7 @@ module _ (rest : List ℕ) (counts : Counts) where
   module _ (is : byteAt rest 0 ≡ 3) (fine : shapeNumber rest 3 counts ≡ 0) where
     pub range-fits : (9 ≤ length rest) × (counts .ranges < 64)
     unfolding kindOf
-    range-fits = (whole rest counts 3 is fine, has-room rest counts 3 is fine)
+    range-fits = (whole-body rest counts 3 is fine, has-room rest counts 3 is fine)
 
     pub range-own : (s : State) → refusalOf rest counts s ≡ cond (ltb (wordAt rest 5) (wordAt rest 1)) 26 0
     unfolding isBadFamily isBadRange writeNumber isBadRow hasBytesAfter endsIdle
@@ -126,7 +126,7 @@ module _ (rest : List ℕ) (counts : Counts) where
   module _ (is : byteAt rest 0 ≡ 2) (fine : shapeNumber rest 2 counts ≡ 0) where
     pub write-fits : 9 ≤ length rest
     unfolding kindOf
-    write-fits = whole rest counts 2 is fine
+    write-fits = whole-body rest counts 2 is fine
 
     pub write-own : (s : State)
         → let n = outcomeNumber (writeOf s (record { 0 = wordAt rest 1 }) (wordAt rest 5) .outcome) in
@@ -137,7 +137,7 @@ module _ (rest : List ℕ) (counts : Counts) where
   module _ (is : byteAt rest 0 ≡ 1) (fine : shapeNumber rest 1 counts ≡ 0) where
     pub row-fits : (17 ≤ length rest) × (counts .rows < 1024)
     unfolding kindOf
-    row-fits = (whole rest counts 1 is fine, has-room rest counts 1 is fine)
+    row-fits = (whole-body rest counts 1 is fine, has-room rest counts 1 is fine)
 
     pub row-own : (s : State) → refusalOf rest counts s ≡ cond (not (clocksInRange (longAt rest 1))) 30 0
     unfolding isBadFamily isBadRange writeNumber isBadRow hasBytesAfter endsIdle

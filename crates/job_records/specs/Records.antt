@@ -11,8 +11,8 @@ use Rattle.job_records.specs.declared.kinds.Kind.{Kind}
 abbrev pub family : ℕ
 family = 0x04
 
-abbrev pub range : ℕ
-range = 0x03
+abbrev pub allowedRange : ℕ
+allowedRange = 0x03
 
 abbrev pub hostWrite : ℕ
 hostWrite = 0x02
@@ -40,7 +40,7 @@ is byte rank body most read = record { byte = byte; kind = record { rank = rank;
 abbrev pub kinds : Counts → List TableRow
 kinds counts =
     is family 1 1 1 (counts .families)
-    ∷ is range 2 8 maxRanges (counts .ranges)
+    ∷ is allowedRange 2 8 maxRanges (counts .ranges)
     ∷ is hostWrite 3 8 maxWrites (counts .writes)
     ∷ is row 4 16 maxRows (counts .rows)
     ∷ is end 5 0 1 0

@@ -12,7 +12,7 @@ use Rattle.host_registers.specs.Access.{writeOf}
 use Rattle.machine_execution.specs.Execution.{someSlotExecutes}
 use Rattle.host_registers.specs.Promises.{outcomeNumber}
 use Rattle.machine_state.specs.declared.state.State.{State}
-use Rattle.job_records.specs.Records.{family, range, hostWrite, row, end, kindOf, isOutOfOrder}
+use Rattle.job_records.specs.Records.{family, allowedRange, hostWrite, row, end, kindOf, isOutOfOrder}
 use Rattle.job_records.specs.Words.{byteAt, wordAt, longAt}
 use Rattle.job_records.specs.declared.contents.Counts.{Counts}
 use Rattle.job_records.specs.declared.kinds.Kind.{Kind}
@@ -35,7 +35,7 @@ isBadFamily rest = eqb (byteAt rest 0) family && not (knownFamily (byteAt rest 1
 
 -- first above last
 unfoldable pub isBadRange : List ℕ → Bool
-isBadRange rest = eqb (byteAt rest 0) range && ltb (wordAt rest 5) (wordAt rest 1)
+isBadRange rest = eqb (byteAt rest 0) allowedRange && ltb (wordAt rest 5) (wordAt rest 1)
 
 -- what the machine says of a host write: 27 not a writable register of this family, 28 a slot executing; 0 where it takes it
 unfoldable pub writeNumber : List ℕ → State → ℕ

@@ -6,7 +6,7 @@ ghost use mathlib.Core.List.{List};
 ghost use Rattle.host_registers.specs.Promises.{outcomeNumber};
 ghost use Rattle.log.specs.Log.{logOf};
 ghost use Rattle.machine_state.specs.Sequencer.{stateFrom};
-ghost use Rattle.job_records.specs.Records.{family, range, hostWrite, row, end};
+ghost use Rattle.job_records.specs.Records.{family, allowedRange, hostWrite, row, end};
 ghost use Rattle.job_records.specs.Refusals.{refusalOf};
 ghost use Rattle.job_records.specs.Words.{byteAt};
 ghost use Rattle.job_records.specs.Inside.{RangeRead, RowRead, StateStored};
@@ -64,7 +64,7 @@ pub(crate) fn read_family(
 
 // A range is the next two bounds.
 pub(crate) fn read_range(rest: &[u8], counts: Counts, bounds: &mut [u32; 128]) -> u8
-    requires { ⌜ byteAt (now rest) 0 ≡ range ⌝ }
+    requires { ⌜ byteAt (now rest) 0 ≡ allowedRange ⌝ }
     ensures { λ r. ⌜ RangeRead (now (rest .entry)) counts (now (bounds .entry)) (now (bounds .exit)) r ⌝ }
 {
     let number = shape_number(rest, RANGE, counts);

@@ -7,5 +7,5 @@ use mir.Val.{hasKey}
 use types.Run.{OneOf, miss}
 
 -- a variant that has an arm of its own is none of them
-pub none : {A : Type 0} (ks : List ℕ) (k : ℕ) → T (not (hasKey ks k)) → OneOf ks k → A
-none ks k t h = elim (miss ks k t h) [ ]
+pub no-such : {A : Type 0} (ks : List ℕ) (k : ℕ) → T (not (hasKey ks k)) → OneOf ks k → A
+no-such ks k t h = elim (miss ks k t h) [ ]

@@ -51,8 +51,8 @@ module _ (x : Scene) where
   InLog p = validPlace (x .log .clocks) p ≡ true
 
   -- so many clocks are left from there
-  abbrev left : Place → ℕ
-  left p = leftOf (x .log .clocks) p
+  abbrev still-left : Place → ℕ
+  still-left p = leftOf (x .log .clocks) p
 
   module _ (valid : validLog (x .log) ≡ true) where
     -- a run stays at places of its log
@@ -68,9 +68,9 @@ module _ (x : Scene) where
     pub slot-clocks : (slot : Slot) (flags : Flags) (n : ℕ) → Clocked (x .log .clocks) (slotRunFor x n (slotBegun slot flags))
     slot-clocks slot flags n = slot-elim (Clocked (x .log .clocks)) (λ r h. omega (arith, next-clocks r)) n (slotBegun slot flags) (omega arith)
       where
-        next-clocks : (r : SlotRun) → left (r .place) ≡ nextSlotStep x r .waited + nextSlotStep x r .searched + left (nextSlotStep x r .place)
+        next-clocks : (r : SlotRun) → still-left (r .place) ≡ nextSlotStep x r .waited + nextSlotStep x r .searched + still-left (nextSlotStep x r .place)
         next-clocks r =
-            slot-step-elim (λ (t : SlotStep). left (r .place) ≡ t .waited + t .searched + left (t .place)) r
+            slot-step-elim (λ (t : SlotStep). still-left (r .place) ≡ t .waited + t .searched + still-left (t .place)) r
             (λ _. slot-step-clocks (x .log) valid (x .family) _ (r .slot) (r .flags) (r .place) (fetchIn x (r .slot .ip .0)))
             (omega arith)
 

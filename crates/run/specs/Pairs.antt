@@ -23,8 +23,8 @@ abbrev pub stepsUnder : List ℕ → Log → ℕ → Run
 stepsUnder bytes log n = runFor SlotName.A log n (begun (holding bytes))
 
 -- a write of 1
-abbrev pub one : ℕ → Write
-one address = record { address = address; word = 1 }
+abbrev pub writeOfOne : ℕ → Write
+writeOfOne address = record { address = address; word = 1 }
 
 -- ---- a row added
 
@@ -58,8 +58,8 @@ pub record Pairs : Type 0 where
   pub say-more : (SaysMore cutOff rowAdded) × (SaysMore unreadLog eventFilled)
   -- the ewait is unfinished after one write; with the row it ends at that row's start, and the other write comes after
   pub unfinished : Unfinished SlotName.A (stepsUnder oneEwait cutOff 5)
-  pub one-write : stepsUnder oneEwait cutOff 5 .writes ≡ one 0x101600 ∷ []
-  pub two-writes : stepsUnder oneEwait rowAdded 5 .writes ≡ one 0x101600 ∷ one 0x101604 ∷ []
+  pub one-write : stepsUnder oneEwait cutOff 5 .writes ≡ writeOfOne 0x101600 ∷ []
+  pub two-writes : stepsUnder oneEwait rowAdded 5 .writes ≡ writeOfOne 0x101600 ∷ writeOfOne 0x101604 ∷ []
   pub goes-on : goneAt (rowAdded .clocks) (stepsUnder oneEwait rowAdded 5 .place) ≡ 32
   -- the first ewait ends after 64 clocks, and with the reading at once
   pub first : (goneAt (unreadLog .clocks) (stepsUnder twoEwaits unreadLog 2 .place) ≡ 64) × (goneAt (eventFilled .clocks) (stepsUnder twoEwaits eventFilled 2

@@ -41,8 +41,8 @@ module _ (c : tie.After-script-fits) where
   }
 
 -- the script fits
-fits : (c : tie.Else1) → scriptFits (script (c .before)) ≡ true
-fits c = sym (c .before .script-fits .ensures) ∙ not-false _ (c .if1 .left)
+fits-so : (c : tie.Else1) → scriptFits (script (c .before)) ≡ true
+fits-so c = sym (c .before .script-fits .ensures) ∙ not-false _ (c .if1 .left)
 
 -- and so do the ranges
 module _ (c : tie.Else2) where
@@ -60,17 +60,17 @@ returns-2 : tie.Need-returns-2
 unfolding auditOf
 returns-2 c =
     let k = c .before .before in
-    audits (k .before) (simp (fits k, sym (c .before .ranges-fit .ensures) ∙ not-true _ (c .if2 .taken)))
+    audits (k .before) (simp (fits-so k, sym (c .before .ranges-fit .ensures) ∙ not-true _ (c .if2 .taken)))
 
 both-true : (a b : Bool) → a ≡ true → b ≡ true → (a && b) ≡ true
 both-true a b p q = rw (p, q)
 
 walk-requires : tie.Need-walk-requires
-walk-requires c κs = both-true _ _ (fits (first c)) (ranges-too c)
+walk-requires c κs = both-true _ _ (fits-so (first c)) (ranges-too c)
 
 returns-3 : tie.Need-returns-3
 unfolding auditOf
-returns-3 c = let k = first (c .before) in audits (k .before) (c .walk .ensures ∙ simp (fits k, ranges-too (c .before)))
+returns-3 c = let k = first (c .before) in audits (k .before) (c .walk .ensures ∙ simp (fits-so k, ranges-too (c .before)))
 
 pub audit-spec : {M : Type 1} → statement M
 audit-spec = tie.close (tie.spec (λ c κs. search needs) returns (λ c κs. search needs) returns-2 walk-requires returns-3)

@@ -52,13 +52,13 @@ module _ (c : tie.After-found Inv-loop μ-loop) where
   abbrev instruction : Instruction
   instruction = c .found .given .0 .0
 
-  abbrev size : ℕ
-  size = c .found .given .0 .1 .0
+  abbrev its-size : ℕ
+  its-size = c .found .given .0 .1 .0
 
-  fetched : fetchAt x (loop .loop .at) ≡ Decoded.Instruction instruction size
+  fetched : fetchAt x (loop .loop .at) ≡ Decoded.Instruction instruction its-size
   fetched = sym (c .before .before .fetch .ensures .answered) ∙ c .found .given .1
 
-  lies : (0 < size) × (loop .loop .at + size ≤ codeSize (x .family))
+  lies : (0 < its-size) × (loop .loop .at + its-size ≤ codeSize (x .family))
   lies =
       let i = rw (c .found .given .1) at (c .before .before .fetch .ensures .inside) in
       (i .0, omega (arith, i .2, length-take (codeSize (x .family)) (x .code)))
@@ -83,7 +83,7 @@ know-next-requires : tie.Need-know-next-requires Inv-loop μ-loop
 know-next-requires c κs =
     let j = c .before .before in
     let f = found j in
-    rw (j .before .action-of .ensures) (going-fits (loop f .loop .inv) (instruction f) (size f) (fetched f) (lies f .0) (lies f .1))
+    rw (j .before .action-of .ensures) (going-fits (loop f .loop .inv) (instruction f) (its-size f) (fetched f) (lies f .0) (lies f .1))
 
 -- one instruction judged fine
 abbrev fine : tie.After-know-next Inv-loop μ-loop → tie.After-judge Inv-loop μ-loop
@@ -101,8 +101,8 @@ loop-again c =
     let f = found j in
     let next : c .know-next .result ≡ knowNext (actionOf (instruction f)) (known j)
     = c .know-next .ensures ∙ ap (λ (a : Action). knowNext a (known j)) (j .before .action-of .ensures) in
-    let goes = going-on (loop f .loop .inv) (instruction f) (size f) (fetched f) (lies f .0) (lies f .1) (sym (judged j) ∙ c .before .enum-told2 .given .1) in
-    subst (Going (x f) (ranges (loop f .before)) (loop f .loop .at + size f)) (sym next) goes
+    let goes = going-on (loop f .loop .inv) (instruction f) (its-size f) (fetched f) (lies f .0) (lies f .1) (sym (judged j) ∙ c .before .enum-told2 .given .1) in
+    subst (Going (x f) (ranges (loop f .before)) (loop f .loop .at + its-size f)) (sym next) goes
 
 add-count : tie.Need-add-t21 Inv-loop μ-loop
 add-count c = let g = loop (found (c .before .before .before)) .loop .inv in omega (arith, g .counted, g .low)
@@ -121,14 +121,14 @@ returns-2 : tie.Need-returns-2 Inv-loop μ-loop
 returns-2 c =
     let j = c .before .before .before in
     let f = found j in
-    going-exit (loop f .loop .inv) (instruction f) (size f) (fetched f) (lies f .0) (lies f .1) (sym (judged j) ∙ c .before .enum-told3 .given .1)
+    going-exit (loop f .loop .inv) (instruction f) (its-size f) (fetched f) (lies f .0) (lies f .1) (sym (judged j) ∙ c .before .enum-told3 .given .1)
 
 returns-3 : tie.Need-returns-3 Inv-loop μ-loop
 returns-3 c =
     let j = c .before .before .before in
     let f = found j in
     let bad = c .before .judgement .given in
-    going-bad (loop f .loop .inv) (instruction f) (size f) (fetched f) (lies f .0) (lies f .1) (bad .0 .0) (sym (judged j) ∙ bad .1)
+    going-bad (loop f .loop .inv) (instruction f) (its-size f) (fetched f) (lies f .0) (lies f .1) (bad .0 .0) (sym (judged j) ∙ bad .1)
 
 pub walk-spec : {M : Type 1} → statement M
 walk-spec =

@@ -16,11 +16,11 @@ module _ (c : tie.After-struct-known) where
 
 -- the ewait that is done, and the row that is put where the present one does not release it
 module _ (c : tie.After-put-row) where
-  abbrev kept : tie.Else1
-  kept = let lent = c .before in lent .before .before .before
+  abbrev stays : tie.Else1
+  stays = let lent = c .before in lent .before .before .before
 
   abbrev ewait : tie.After-action2
-  ewait = kept .before .before .before
+  ewait = stays .before .before .before
 
 -- from the last place of that arm back to where the row is put
 abbrev row-put : tie.After-slice-known6 → tie.After-put-row
@@ -53,7 +53,7 @@ returns-3 c =
     let told = ewait put in
     let a = start (told .before .before) .args in
     extends-begun (a .made) (logOf (now (a .clocks)) (now (a .known)) (now (a .values))) _ _ _ (told .action2 .given .1)
-    (sym (kept put .before .has-reading .ensures) ∙ kept put .if1 .left) (begun .event-row .ensures) (put .put-row .ensures) (c .made-so3 .ensures)
+    (sym (stays put .before .has-reading .ensures) ∙ stays put .if1 .left) (begun .event-row .ensures) (put .put-row .ensures) (c .made-so3 .ensures)
 
 returns-4 : tie.Need-returns-4
 returns-4 c = extends-poke _ _ _ _ _ (c .before .enum-told .given .1) (c .made-so4 .ensures)

@@ -61,17 +61,17 @@ module _ (c : tie.After-found Inv-loop μ-loop) where
   abbrev instruction : Instruction
   instruction = c .found .given .0 .0
 
-  abbrev size : ℕ
-  size = c .found .given .0 .1 .0
+  abbrev its-size : ℕ
+  its-size = c .found .given .0 .1 .0
 
-  fetched : fetchAt (script (loop .before)) (loop .loop .at) ≡ Decoded.Instruction instruction size
+  fetched : fetchAt (script (loop .before)) (loop .loop .at) ≡ Decoded.Instruction instruction its-size
   fetched = sym (asked .fetch .ensures .answered) ∙ c .found .given .1
 
   apart : loop .loop .at ≡ given .args .place .0 → ⊥
   apart = asked .before .if1 .left
 
-  lies : (0 < size) × (loop .loop .at + size ≤ 512)
-  lies = inside (loop .loop .inv) (room (loop .before)) apart instruction size fetched
+  lies : (0 < its-size) × (loop .loop .at + its-size ≤ 512)
+  lies = inside (loop .loop .inv) (room (loop .before)) apart instruction its-size fetched
 
 -- from the columns that are lent to go on up to the action
 abbrev action-at : tie.After-extend-arg3 Inv-loop μ-loop → tie.After-action-of Inv-loop μ-loop
@@ -83,7 +83,7 @@ extend-requires c κs =
     let f = acted .before .before in
     let l = loop f in
     let p = place-left (l .loop .inv) (room (l .before)) in
-    let q = counts-fit (l .loop .inv) (room (l .before)) (apart f) (instruction f) (size f) (fetched f) in
+    let q = counts-fit (l .loop .inv) (room (l .before)) (apart f) (instruction f) (its-size f) (fetched f) in
     rw (acted .action-of .ensures) (p .0, p .1, p .2, q .0, q .1, q .2, q .3, q .4)
 
 -- one instruction done
@@ -107,17 +107,17 @@ loop-again : tie.Need-loop-again Inv-loop μ-loop
 loop-again c =
     let f = found c in
     let l = loop f in
-    making-next (l .loop .inv) (room (l .before)) (apart f) (instruction f) (size f) (fetched f) (acted c .action-of .ensures) (extended c .extend .ensures)
+    making-next (l .loop .inv) (room (l .before)) (apart f) (instruction f) (its-size f) (fetched f) (acted c .action-of .ensures) (extended c .extend .ensures)
 
 -- where the loop is left: at the place, since the walk there meets no byte that cannot be read
 module _ (c : tie.Joined1 Inv-loop μ-loop) where
-  abbrev left : tie.At-loop Inv-loop μ-loop
-  left = c .before .before
+  abbrev loop-left : tie.At-loop Inv-loop μ-loop
+  loop-left = c .before .before
 
-  arrives : (c .if1 .last ≡ left .loop .made) × (left .loop .at ≡ start (left .before) .args .place .0)
+  arrives : (c .if1 .last ≡ loop-left .loop .made) × (loop-left .loop .at ≡ start (loop-left .before) .args .place .0)
   arrives =
       ⊎-elim (λ w. (w .1, w .0 .taken))
-      (λ w. absurd (never-refused (left .loop .inv .walk) (w .0 .left) _ (sym (w .1 .ensures .answered) ∙ w .3 .given .1)))
+      (λ w. absurd (never-refused (loop-left .loop .inv .walk) (w .0 .left) _ (sym (w .1 .ensures .answered) ∙ w .3 .given .1)))
       (c .if1 .came)
 
 -- from the columns that are lent for the last row up to there
@@ -127,7 +127,7 @@ left-at c = let row = c .before .before .before in row .before
 put-row-requires : tie.Need-put-row-requires Inv-loop μ-loop
 put-row-requires c κs =
     let j = left-at c in
-    let l = left j in
+    let l = loop-left j in
     rw (arrives j .0) (place-left (l .loop .inv) (room (l .before)))
 
 -- the last row is put
@@ -139,7 +139,7 @@ module _ (c : tie.After-slice-known9 Inv-loop μ-loop) where
   joined = left-at (put .before)
 
   abbrev last-loop : tie.At-loop Inv-loop μ-loop
-  last-loop = left joined
+  last-loop = loop-left joined
 
 same-length : tie.Need-same-length Inv-loop μ-loop
 same-length c = lengths-over (last-loop c .loop .inv) (room (last-loop c .before)) _ _ (put c .put-row .ensures) .clocks

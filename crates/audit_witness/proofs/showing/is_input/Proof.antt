@@ -9,7 +9,7 @@ use borrow.Author.Needs.{needs}
 use Rattle.refusals.specs.Number.{faultNumber}
 use Rattle.refusals.specs.declared.refusals.Fault.{Fault}
 use Rattle.refusals.proofs.refusals.Fault.{the-type as fault-type}
-use Rattle.machine_actions.proofs.Variants.{none}
+use Rattle.machine_actions.proofs.Variants.{no-such}
 use Rattle.audit_verdict.specs.Auditor.{verdictNumber}
 use Rattle.audit_verdict.specs.declared.verdicts.Verdict.{Verdict}
 use Rattle.audit_witness.proofs.showing.is_input.Statement.{statement}
@@ -24,7 +24,7 @@ other Fault.HalfData h = refl
 other Fault.Outside h = refl
 other Fault.Unreleased h = refl
 other Fault.Paused h = refl
-other Fault.Input h = none (0 ∷ 1 ∷ 2 ∷ 3 ∷ 4 ∷ 5 ∷ 6 ∷ 7 ∷ []) 8 tt h
+other Fault.Input h = no-such (0 ∷ 1 ∷ 2 ∷ 3 ∷ 4 ∷ 5 ∷ 6 ∷ 7 ∷ []) 8 tt h
 
 -- the number of what was told
 told : {v w : Verdict} → v ≡ w → eqb (verdictNumber w) 9 ≡ eqb (verdictNumber v) 9

@@ -39,13 +39,13 @@ module _ (c : tie.Else1) where
   abbrev given : tie.Start
   given = start audited
 
-  fits : (let a = given .args in inputFits (scriptOf (a .family) (now (a .code)) (now (a .marks)) (a .entry .0)) (now (a .ranges))) ≡ true
-  fits = else-fits _ _ (audited .audit .ensures) (sym (c .before .is-input .ensures) ∙ c .if1 .left)
+  fits-so : (let a = given .args in inputFits (scriptOf (a .family) (now (a .code)) (now (a .marks)) (a .entry .0)) (now (a .ranges))) ≡ true
+  fits-so = else-fits _ _ (audited .audit .ensures) (sym (c .before .is-input .ensures) ∙ c .if1 .left)
 
 returns-2 : tie.Need-returns-2
 returns-2 c =
     let columns = lent (audited (c .before)) in
-    refuses-room _ _ columns (fits (c .before))
+    refuses-room _ _ columns (fits-so (c .before))
     (⊎-elim (λ w. few-clocks columns (w .taken))
     (⊎-elim (λ w. few-known columns (ltb-true _ _ (w .1 .taken))) (λ w. few-values columns (ltb-true _ _ (w .2 .taken))))
     (c .if2 .came))
@@ -74,7 +74,7 @@ follow-requires c κs =
     let placed = place-at c in
     let t = took placed in
     let l = long placed in
-    (fits t, placed .place-of .ensures ∙ ap placeOf (audited t .audit .ensures .answered), l .clocks, l .known, l .values)
+    (fits-so t, placed .place-of .ensures ∙ ap placeOf (audited t .audit .ensures .answered), l .clocks, l .known, l .values)
 
 -- the log was made
 module _ (c : tie.After-struct-known) where
@@ -90,12 +90,12 @@ module _ (c : tie.After-struct-known) where
 add-t16 : tie.Need-add-t16
 add-t16 c =
     let t = took (placed c) in
-    omega (arith, rows-fit _ _ _ (fits t) (long (placed c)) (audited t .audit .ensures) (followed c .follow .ensures))
+    omega (arith, rows-fit _ _ _ (fits-so t) (long (placed c)) (audited t .audit .ensures) (followed c .follow .ensures))
 
 returns-3 : tie.Need-returns-3
 returns-3 c =
     let t = took (placed c) in
-    answers _ _ _ (fits t) (long (placed c)) (audited t .audit .ensures) (followed c .follow .ensures)
+    answers _ _ _ (fits-so t) (long (placed c)) (audited t .audit .ensures) (followed c .follow .ensures)
 
 pub witness-spec : {M : Type 1} → statement M
 witness-spec =

@@ -8,7 +8,7 @@ use Rattle.isa.specs.Reader.{decodeOf, decodedNumber}
 use Rattle.isa.specs.Codec.{OneSpelling, Reads}
 use Rattle.isa.specs.declared.reader.Decoded.{Decoded}
 use Rattle.isa.proofs.Codec.{one-spelling}
-use Rattle.isa.proofs.Reading.{no-family, no-byte, short, whole, read-numbered}
+use Rattle.isa.proofs.Reading.{no-family, no-byte, short, all-there, read-numbered}
 use Rattle.isa_reader.proofs.decoding.decode.Statement.{statement}
 use Rattle.isa_reader.proofs.decoding.decode.Tie as tie
 
@@ -41,7 +41,7 @@ returns-3 c =
     let k = known opcode in
     spelled-so (k .before .before)
     (c .read-as .ensures
-    ∙ whole _ _ _ (sym (k .before .known-family .ensures) ∙ not-false _ (k .if1 .left)) (omega arith) (opcode .opcode-at .ensures) (omega arith))
+    ∙ all-there _ _ _ (sym (k .before .known-family .ensures) ∙ not-false _ (k .if1 .left)) (omega arith) (opcode .opcode-at .ensures) (omega arith))
 
 returns-4 : tie.Need-returns-4
 returns-4 c =

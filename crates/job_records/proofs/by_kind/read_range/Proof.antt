@@ -29,8 +29,8 @@ counts e = start e .args .counts
 fine : (e : tie.Else1) → shapeNumber (rest e) 3 (counts e) ≡ 0
 fine e = sym (e .before .shape-number .ensures) ∙ e .if1 .left
 
-whole : (e : tie.Else1) → 9 ≤ length (rest e)
-whole e = range-fits (rest e) (counts e) (start e .pre) (fine e) .0
+nine-bytes : (e : tie.Else1) → 9 ≤ length (rest e)
+nine-bytes e = range-fits (rest e) (counts e) (start e .pre) (fine e) .0
 
 room : (e : tie.Else1) → counts e .ranges < 64
 room e = range-fits (rest e) (counts e) (start e .pre) (fine e) .1
@@ -50,10 +50,10 @@ returns c =
     }
 
 word-in-requires : tie.Need-word-in-requires
-word-in-requires c κs = omega (arith, whole c)
+word-in-requires c κs = omega (arith, nine-bytes c)
 
 word-in-requires-2 : tie.Need-word-in-requires-2
-word-in-requires-2 c κs = omega (arith, whole (c .before))
+word-in-requires-2 c κs = omega (arith, nine-bytes (c .before))
 
 returns-2 : tie.Need-returns-2
 returns-2 c =

@@ -29,8 +29,8 @@ counts e = start e .args .counts
 fine : (e : tie.Else1) → shapeNumber (rest e) 1 (counts e) ≡ 0
 fine e = sym (e .before .shape-number .ensures) ∙ e .if1 .left
 
-whole : (e : tie.Else1) → 17 ≤ length (rest e)
-whole e = row-fits (rest e) (counts e) (start e .pre) (fine e) .0
+row-bytes : (e : tie.Else1) → 17 ≤ length (rest e)
+row-bytes e = row-fits (rest e) (counts e) (start e .pre) (fine e) .0
 
 room : (e : tie.Else1) → counts e .rows < 1024
 room e = row-fits (rest e) (counts e) (start e .pre) (fine e) .1
@@ -56,7 +56,7 @@ returns c =
     }
 
 long-in-requires : tie.Need-long-in-requires
-long-in-requires c κs = omega (arith, whole c)
+long-in-requires c κs = omega (arith, row-bytes c)
 
 returns-2 : tie.Need-returns-2
 returns-2 c =
@@ -77,7 +77,7 @@ element-write-clocks : tie.Need-element-write-clocks
 element-write-clocks c = room (taken c)
 
 word-in-requires : tie.Need-word-in-requires
-word-in-requires c κs = omega (arith, whole (taken c))
+word-in-requires c κs = omega (arith, row-bytes (taken c))
 
 mul-known : tie.Need-mul-known
 mul-known c = omega (arith, room (taken (c .before)))
@@ -86,7 +86,7 @@ element-write-known : tie.Need-element-write-known
 element-write-known c = room (taken (c .before))
 
 word-in-requires-2 : tie.Need-word-in-requires-2
-word-in-requires-2 c κs = omega (arith, whole (taken (c .before)))
+word-in-requires-2 c κs = omega (arith, row-bytes (taken (c .before)))
 
 mul-values : tie.Need-mul-values
 mul-values c = omega (arith, room (taken (c .before .before)))

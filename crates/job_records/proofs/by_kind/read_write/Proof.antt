@@ -31,8 +31,8 @@ fine e = sym (e .before .shape-number .ensures) ∙ e .if1 .left
 abbrev state : tie.Start → State
 state b = stateFrom (b .args .sequencer) (now (b .args .code)) (now (b .args .marks))
 
-whole : (e : tie.Else1) → 9 ≤ length (rest e)
-whole e = write-fits (rest e) (counts e) (start e .pre) (fine e)
+nine-bytes : (e : tie.Else1) → 9 ≤ length (rest e)
+nine-bytes e = write-fits (rest e) (counts e) (start e .pre) (fine e)
 
 returns : tie.Need-returns
 returns c =
@@ -45,10 +45,10 @@ returns c =
     }
 
 word-in-requires : tie.Need-word-in-requires
-word-in-requires c κs = omega (arith, whole c)
+word-in-requires c κs = omega (arith, nine-bytes c)
 
 word-in-requires-2 : tie.Need-word-in-requires-2
-word-in-requires-2 c κs = omega (arith, whole (c .before))
+word-in-requires-2 c κs = omega (arith, nine-bytes (c .before))
 
 -- from the write up to where its word was read
 abbrev word-read : tie.After-write → tie.After-word-in2

@@ -189,39 +189,39 @@ returns c =
 
 -- ---- the next record
 
-abbrev left : tie.After-kind-of Inv-loop μ-loop → tie.At-match-came Inv-loop μ-loop
-left k = k .before .before .before
+abbrev loop-left : tie.After-kind-of Inv-loop μ-loop → tie.At-match-came Inv-loop μ-loop
+loop-left k = k .before .before .before
 
 -- a record without fault
-clear-of : (k : tie.After-kind-of Inv-loop μ-loop) → let l = loop-at (left k .before) in Clear (rest l) (l .loop .counts) (job l .state)
+clear-of : (k : tie.After-kind-of Inv-loop μ-loop) → let l = loop-at (loop-left k .before) in Clear (rest l) (l .loop .counts) (job l .state)
 clear-of k =
-    let l = loop-at (left k .before) in
-    clear (rest l) (l .loop .counts) (job l .state) (sym (reached (left k) .tested) ∙ k .before .before .if1 .left)
+    let l = loop-at (loop-left k .before) in
+    clear (rest l) (l .loop .counts) (job l .state) (sym (reached (loop-left k) .tested) ∙ k .before .before .if1 .left)
 
 body-is : (k : tie.After-kind-of Inv-loop μ-loop)
-    → let l = loop-at (left k .before) in k .kind-of .result .body ≡ kindOf (l .loop .counts) (byteAt (rest l) 0) .body
+    → let l = loop-at (loop-left k .before) in k .kind-of .result .body ≡ kindOf (l .loop .counts) (byteAt (rest l) 0) .body
 body-is k =
-    let l = loop-at (left k .before) in
-    ap (λ (x : Kind). x .body) (k .kind-of .ensures .0 ∙ ap (kindOf (l .loop .counts)) (kind-is (left k .before)))
+    let l = loop-at (loop-left k .before) in
+    ap (λ (x : Kind). x .body) (k .kind-of .ensures .0 ∙ ap (kindOf (l .loop .counts)) (kind-is (loop-left k .before)))
 
-within : (k : tie.After-kind-of Inv-loop μ-loop) → let l = loop-at (left k .before) in l .loop .at + (1 + k .kind-of .result .body) ≤ length (input l)
+within : (k : tie.After-kind-of Inv-loop μ-loop) → let l = loop-at (loop-left k .before) in l .loop .at + (1 + k .kind-of .result .body) ≤ length (input l)
 within k =
-    let l = loop-at (left k .before) in
+    let l = loop-at (loop-left k .before) in
     omega (arith, clear-of k .whole, body-is k, length-drop (l .loop .at) (input l), l .loop .inv .0)
 
 add-at : tie.Need-add-at Inv-loop μ-loop
-add-at c = let k = c .before .before in omega (arith, within k, start (loop-at (left k .before)) .pre)
+add-at c = let k = c .before .before in omega (arith, within k, start (loop-at (loop-left k .before)) .pre)
 
 loop-less : tie.Need-loop-less Inv-loop μ-loop
 loop-less c = let k = c .before .before in omega (arith, within k)
 
 counted-requires : tie.Need-counted-requires Inv-loop μ-loop
-counted-requires c κs = loop-at (left (c .before) .before) .loop .inv .1 .fit
+counted-requires c κs = loop-at (loop-left (c .before) .before) .loop .inv .1 .fit
 
 loop-again : tie.Need-loop-again Inv-loop μ-loop
 loop-again c =
     let k = c .before .before in
-    let m = left k in
+    let m = loop-left k in
     let l = loop-at (m .before) in
     let s = input l in
     let at = l .loop .at in

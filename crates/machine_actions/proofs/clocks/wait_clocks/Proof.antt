@@ -10,27 +10,27 @@ use Rattle.isa.proofs.Clocks.{exact, most}
 use Rattle.machine_actions.proofs.clocks.wait_clocks.Statement.{statement}
 use Rattle.machine_actions.proofs.clocks.wait_clocks.Tie as tie
 
-fits : (c : tie.Then1) → waitFits (c .before .before .args .length) (c .before .before .args .shift) ≡ true
-fits c = sym (c .before .wait-fits .ensures) ∙ c .if1 .taken
+fits-so : (c : tie.Then1) → waitFits (c .before .before .args .length) (c .before .before .args .shift) ≡ true
+fits-so c = sym (c .before .wait-fits .ensures) ∙ c .if1 .taken
 
 returns : tie.Need-returns
 unfolding waitClocks
 returns c =
     let a = c .before .before .args in
-    let e = exact (a .length) (a .shift) (fits c) in
-    rw (fits c) (ap (λ (n : ℕ). n * 32) e)
+    let e = exact (a .length) (a .shift) (fits-so c) in
+    rw (fits-so c) (ap (λ (n : ℕ). n * 32) e)
 
 mul-result : tie.Need-mul-result
-mul-result c = omega (arith, wait-fits (c .before .before .args .length) (c .before .before .args .shift) (fits c))
+mul-result c = omega (arith, wait-fits (c .before .before .args .length) (c .before .before .args .shift) (fits-so c))
 
 shl-result : tie.Need-shl-result
-shl-result c = omega (arith, wait-fits (c .before .before .args .length) (c .before .before .args .shift) (fits c))
+shl-result c = omega (arith, wait-fits (c .before .before .args .length) (c .before .before .args .shift) (fits-so c))
 
 mul-result-2 : tie.Need-mul-result-2
 mul-result-2 c =
     let a = c .before .before .args in
-    let e = exact (a .length) (a .shift) (fits c) in
-    record { fits = omega (arith, e, most (a .length) (a .shift) (fits c)) }
+    let e = exact (a .length) (a .shift) (fits-so c) in
+    record { fits = omega (arith, e, most (a .length) (a .shift) (fits-so c)) }
 
 returns-2 : tie.Need-returns-2
 unfolding waitClocks
