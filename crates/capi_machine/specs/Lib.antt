@@ -1,3 +1,1 @@
-pub mod Images
-pub mod Accesses
 pub mod Stepping

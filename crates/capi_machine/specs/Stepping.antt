@@ -10,8 +10,8 @@ use Rattle.machine_slot.specs.declared.slot_steps.Effect.{Effect}
 use Rattle.machine_step.specs.Step.{stepOf}
 use Rattle.machine_step.specs.Promises.{Steps}
 use Rattle.machine_step.specs.declared.steps.Stepped.{Stepped}
-use Rattle.capi_machine.specs.Images.{imageState, stateImage}
-use Rattle.capi_machine.specs.declared.images.StateImage.{StateImage}
+use Rattle.capi_state.specs.Images.{imageState, stateImage}
+use Rattle.capi_state.specs.declared.images.StateImage.{StateImage}
 use Rattle.capi_machine.specs.declared.stepping.EffectNumbers.{EffectNumbers}
 use Rattle.capi_machine.specs.declared.stepping.StepReply.{StepReply}
 

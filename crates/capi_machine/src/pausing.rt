@@ -1,8 +1,8 @@
 // Whether memory is paused.
 ghost use mathlib.Core.Path.{_≡_};
 ghost use Rattle.machine_flags.specs.Flags.{pausedOf};
-ghost use Rattle.capi_machine.specs.Images.{imageState};
-use crate::images::StateImage;
+ghost use Rattle.capi_state.specs.Images.{imageState};
+use capi_state::StateImage;
 use machine_flags::Flags;
 
 #[no_mangle]

@@ -2,9 +2,9 @@
 ghost use mathlib.Core.Path.{_≡_};
 ghost use Rattle.capi_machine.specs.Stepping.{slotNumbered, effectNumbers, stepReply, HwsqStep};
 ghost use Rattle.log.specs.Log.{logOf};
-use crate::images::StateImage;
-use crate::images::state_image;
-use crate::images::state_of_image;
+use capi_state::StateImage;
+use capi_state::state_image;
+use capi_state::state_of_image;
 use isa::MmioAddress;
 use log::Place;
 use machine_slot::Effect;

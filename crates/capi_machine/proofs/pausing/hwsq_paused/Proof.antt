@@ -1,5 +1,5 @@
 -- Assumes nothing.
-use Rattle.capi_machine.specs.Images.{imageState}
+use Rattle.capi_state.specs.Images.{imageState}
 use borrow.Author.Needs.{needs}
 use Rattle.capi_machine.proofs.pausing.hwsq_paused.Statement.{statement}
 use Rattle.capi_machine.proofs.pausing.hwsq_paused.Tie as tie
