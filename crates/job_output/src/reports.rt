@@ -5,7 +5,8 @@ ghost use Prim.Native.Nat.{_≤_};
 ghost use lib.ListN.{length, take};
 ghost use Rattle.job_text.specs.Put.{Stored};
 ghost use Rattle.job_report.specs.Lines.{familyLine, rowLines};
-ghost use Rattle.job_report.specs.Report.{lastLines, Reports};
+ghost use Rattle.job_report.specs.Report.{lastLines};
+ghost use Rattle.job_report.specs.Promises.{Reports};
 ghost use Rattle.job_output.specs.Inside.{verdictLine};
 use crate::lines::put_end;
 use crate::lines::put_family;
@@ -24,9 +25,15 @@ use machine_state::State;
 use run::Progress;
 use run::RunAnswer;
 
+// The most bytes that a report may have: so many are lent.
+pub const MAX_REPORT: usize = 65536;
+
+// What a job is read into: one byte more than the longest one has, so that a job that is too long is seen to be.
+pub const JOB_BUFFER: usize = job_records::MAX_BYTES + 1;
+
 // Puts the report on a job at the start of out, whose other bytes stay as lent, and answers how long it is. A passed script is
 // run before the first byte is put.
-pub fn report(job: &[u8], out: &mut [u8; 65536]) -> usize
+pub fn report(job: &[u8], out: &mut [u8; MAX_REPORT]) -> usize
     ensures { λ r. ⌜ Reports (now (job .entry)) (now (out .entry)) (now (out .exit)) r ⌝ }
 {
     let read = job_records::read_job(job);
@@ -69,7 +76,7 @@ pub fn report(job: &[u8], out: &mut [u8; 65536]) -> usize
 }
 
 // The family, and the verdict on the script.
-fn put_verdict(out: &mut [u8; 65536], family: u8, verdict: Verdict) -> usize
+fn put_verdict(out: &mut [u8; MAX_REPORT], family: u8, verdict: Verdict) -> usize
     ensures { λ r. ⌜ Stored (now (out .entry)) 0 (familyLine family ++ verdictLine verdict) r (now (out .exit)) ⌝ }
     ensures { λ _. ⌜ length (now (out .entry)) ≡ 65536 ⌝ }
 {
@@ -88,7 +95,7 @@ fn put_verdict(out: &mut [u8; 65536], family: u8, verdict: Verdict) -> usize
 }
 
 // A line for each of the first rows of a column.
-fn put_known(out: &mut [u8; 65536], at: usize, known: &[u32], rows: usize) -> usize
+fn put_known(out: &mut [u8; MAX_REPORT], at: usize, known: &[u32], rows: usize) -> usize
     requires { ⌜ rows ≤ length (now known) ⌝ }
     ensures { λ r. ⌜ Stored (now (out .entry)) at (rowLines 0 (take rows (now (known .entry)))) r (now (out .exit)) ⌝ }
 {
@@ -96,7 +103,7 @@ fn put_known(out: &mut [u8; 65536], at: usize, known: &[u32], rows: usize) -> us
 }
 
 // How the run ended, and what STATUS shows then.
-fn put_last(out: &mut [u8; 65536], at: usize, state: State, last: Progress) -> usize
+fn put_last(out: &mut [u8; MAX_REPORT], at: usize, state: State, last: Progress) -> usize
     ensures { λ r. ⌜ Stored (now (out .entry)) at (lastLines state last) r (now (out .exit)) ⌝ }
 {
     let slot = last.slot;

@@ -23,7 +23,7 @@ use machine_state::state_from;
 use words::byte_at;
 
 // The most bytes that a job may have.
-const MAX_BYTES: usize = 32768;
+pub const MAX_BYTES: usize = 32768;
 
 // What was read: the refusal's number, 0 for a job without fault, the offset of the record at fault or of the end, and what
 // the records before it say.

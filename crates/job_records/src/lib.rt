@@ -9,4 +9,5 @@ mod numbers;
 pub use contents::Counts;
 pub use contents::Job;
 pub use jobs::JobRead;
+pub use jobs::MAX_BYTES;
 pub use jobs::read_job;

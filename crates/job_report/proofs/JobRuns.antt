@@ -29,7 +29,8 @@ use Rattle.job_records.specs.Started.{Started, executing, codeOf, marksOf, scri
 use Rattle.job_records.specs.declared.contents.Job.{Job}
 use Rattle.job_report.specs.Lines.{familyLine, passLine, writeLines, rowLines, endLine, statusLine}
 use Rattle.job_report.specs.JobScript.{jobScene, jobRun, stepRun, statusOf}
-use Rattle.job_report.specs.Report.{runLines, jobLines, reportOf, stepLines, Passed}
+use Rattle.job_report.specs.Report.{runLines, jobLines, reportOf, stepLines}
+use Rattle.job_report.specs.Promises.{Passed}
 use Rattle.job_report.proofs.ScriptLaws.{script-fits}
 
 module _ (j : Job) (sound : Sound j) (started : Started j) where

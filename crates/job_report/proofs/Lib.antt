@@ -1,3 +1,5 @@
 pub mod ScriptLaws
 pub mod JobRuns
 pub mod Lengths
+pub mod Worked
+pub mod Lent

@@ -1,11 +1,8 @@
 -- The report on a job, whole (01, "A job, and one report whole").
-use Prim.Native.Nat.{ℕ, _≤_}
-use mathlib.Core.Path.{_≡_}
+use Prim.Native.Nat.{ℕ}
 use mathlib.Core.Bool.{cond}
 use mathlib.Core.List.{List, _++_}
 use lib.Dec.{eqb}
-use lib.ListN.{length, take, drop}
-use Rattle.isa.specs.declared.addresses.CodeAddress.{CodeAddress}
 use Rattle.refusals.specs.Number.{faultNumber}
 use Rattle.audit_verdict.specs.declared.verdicts.Verdict.{Verdict}
 use Rattle.run.specs.Replay.{endingOf, progressOf}
@@ -16,7 +13,6 @@ use Rattle.machine_state.specs.declared.state.State.{State}
 use Rattle.job_records.specs.Job.{knownOf}
 use Rattle.job_records.specs.Reader.{jobReadOf}
 use Rattle.job_records.specs.declared.contents.Job.{Job}
-use Rattle.job_records.specs.declared.jobs.JobRead.{JobRead}
 use Rattle.job_report.specs.Lines.{refusedLine, familyLine, faultLine, passLine, writeLines, rowLines, endLine, statusLine}
 use Rattle.job_report.specs.JobScript.{verdictOf, jobRun, stepRun, statusOf}
 
@@ -46,20 +42,3 @@ stepLines j =
     let r = stepRun j in
     let ending = endingOf (slotOf (r .state) (executingSlot (j .state)) .mode) in
     writeLines (r .writes) ++ rowLines 0 (knownOf j) ++ (endLine ending (r .place) ++ statusLine (statusOf (r .state)))
-
--- a job without fault, and its script passed
-pub record Passed (read : JobRead) (place : CodeAddress) (count writes clocks : ℕ) : Type 0 where
-  pub faultless : read .number ≡ 0
-  pub passes : verdictOf (read .job) ≡ Verdict.Pass place count writes clocks
-
--- what is promised of the answer, and of the lent bytes, old and new: the report and then as lent
-pub record Reports (bytes old new : List ℕ) (answer : ℕ) : Type 0 where
-  pub answered : answer ≡ length (reportOf bytes)
-  pub contents : new ≡ reportOf bytes ++ drop (length (reportOf bytes)) old
-  -- so many of the lent bytes can be handed on as a part
-  pub counted : (answer ≤ length new) × (answer ≡ length (take answer new))
-  -- of every job without fault, whatever HWSQ_ENABLE and the flags are, the run is the machine's own
-  pub follows : jobReadOf bytes .number ≡ 0 → runLines (jobReadOf bytes .job) ≡ stepLines (jobReadOf bytes .job)
-  -- and of a passed script the lent bytes tell that run
-  pub tells : (place : CodeAddress) (count writes clocks : ℕ) → Passed (jobReadOf bytes) place count writes clocks
-      → (let j = jobReadOf bytes .job in take answer new ≡ familyLine (j .state .family) ++ (passLine (place .0) count writes clocks ++ stepLines j))

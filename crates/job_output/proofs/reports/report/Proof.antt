@@ -5,7 +5,7 @@ use mathlib.Core.Path.{_≡_, refl, ap, ap₂, sym, subst, _∙_}
 use mathlib.Core.List.{List, _++_}
 use native.Mathlib.Omega.{arith}
 use lib.ListN.{length, take, drop, replicate, length-replicate}
-use lib.Seq.{take-at}
+use lib.Seq.{take-at, drop-at}
 use borrow.Author.Tests.{eq-eqb, ne-eqb}
 use Rattle.job_text.specs.Put.{Stored}
 use Rattle.machine_state.specs.declared.sequencer.Sequencer.{Sequencer}
@@ -16,12 +16,14 @@ use Rattle.job_records.specs.Reader.{jobReadOf}
 use Rattle.job_records.specs.declared.contents.Job.{Job}
 use Rattle.job_records.specs.declared.jobs.JobRead.{JobRead}
 use Rattle.job_report.specs.Lines.{refusedLine, writeLines, rowLines}
-use Rattle.job_report.specs.Report.{lastLines, runLines, jobLines, reportOf, stepLines, Reports}
+use Rattle.job_report.specs.Report.{lastLines, runLines, jobLines, reportOf, stepLines}
+use Rattle.job_report.specs.Promises.{maxReport, Reports}
 use Rattle.job_report.specs.JobScript.{verdictOf, jobRun}
 use Rattle.job_output.specs.Inside.{pairLines, RunsScript, ReadyToRun, RanJob}
-use Rattle.job_text.proofs.PutLaws.{then, whole, counts, stored-as}
+use Rattle.job_text.proofs.PutLaws.{then, whole, stored-as}
 use Rattle.job_report.proofs.Lengths.{refused-length, job-length}
 use Rattle.job_report.proofs.JobRuns.{follows-steps, tells-steps}
+use Rattle.job_report.proofs.Worked.{worked}
 use Rattle.job_output.proofs.LineLaws.{pairs-writes, fault-lines, pass-lines}
 use Rattle.job_output.proofs.ScriptLaws.{part-length, bounds-room, lent-room, lent-verdict, lent-run}
 use Rattle.job_output.proofs.ScriptLaws.{never-refused, run-ends, entries-lie, entries-few, ran}
@@ -30,19 +32,22 @@ use Rattle.job_output.proofs.reports.report.Statement.{statement}
 use Rattle.job_output.proofs.reports.report.Tie as tie
 
 -- the defined report, at the start of the lent bytes
-reports : (bytes old : List ℕ) {t : List ℕ} {r : ℕ} {new : List ℕ} → t ≡ reportOf bytes → length t ≤ 65536 → length old ≡ 65536 → Stored old 0 t r new
+reports : (bytes old : List ℕ) {t : List ℕ} {r : ℕ} {new : List ℕ} → t ≡ reportOf bytes → length t ≤ maxReport → length old ≡ maxReport → Stored old 0 t r new
     → (jobReadOf bytes .number ≡ 0 → runLines (jobReadOf bytes .job) ≡ stepLines (jobReadOf bytes .job)) → Reports bytes old new r
 reports bytes old e fits size h follows =
     let room : length (reportOf bytes) ≤ length old = subst (λ (t : List ℕ). length t ≤ length old) e (omega arith) in
     let stored = stored-as old 0 e h in
     let w = whole old (reportOf bytes) room stored in
-    let told = ap₂ take (w .0) (w .1) ∙ take-at (reportOf bytes) (drop (length (reportOf bytes)) old) (length (reportOf bytes)) refl in
+    let n = length (reportOf bytes) in
+    let told = ap₂ take (w .0) (w .1) ∙ take-at (reportOf bytes) (drop n old) n refl in
+    let kept = ap₂ drop (w .0) (w .1) ∙ drop-at (reportOf bytes) (drop n old) n refl ∙ ap (λ (k : ℕ). drop k old) (sym (w .0)) in
     record {
       answered = w .0;
       contents = w .1;
-      counted = counts old (reportOf bytes) room stored;
+      counted = (omega (arith, w .0), told, kept);
       follows = follows;
       tells = λ place count writes clocks p. told ∙ tells-steps bytes p (follows (p .faultless));
+      worked = worked;
     }
 
 refusal-is : (bytes : List ℕ) (read : JobRead) → read ≡ jobReadOf bytes → (read .number ≡ 0 → ⊥) → refusedLine (read .number) (read .at) ≡ reportOf bytes
@@ -80,7 +85,7 @@ module _ (c : tie.Else1) where
   ready : ReadyToRun job
   ready = let read = c .before .read-job in record { sound = read .ensures .sound; started = read .ensures .started (c .if1 .left) }
 
-  job-reports : {r : ℕ} {new : List ℕ} → length out ≡ 65536 → Stored out 0 (jobLines job) r new → Reports bytes out new r
+  job-reports : {r : ℕ} {new : List ℕ} → length out ≡ maxReport → Stored out 0 (jobLines job) r new → Reports bytes out new r
   job-reports size h =
       let read = c .before .read-job in
       reports bytes out (job-is bytes (read .result) (read .ensures .answered) (c .if1 .left)) (job-length job (ready .sound) (ready .started)) size h
