@@ -30,7 +30,7 @@ use Rattle.job_records.specs.Records.{kindOf, isOutOfOrder}
 use Rattle.job_records.specs.Refusals.{isUnknown, isCutShort, isTooMany, isBadFamily, isBadRange, writeNumber, isBadRow, hasBytesAfter, endsIdle, refusalOf}
 use Rattle.job_records.specs.Words.{wordAt, longAt}
 use Rattle.job_report.specs.JobScript.{verdictOf, jobRun, statusOf}
-use Rattle.job_report.specs.Lines.{familyLine, faultLine, passLine, writeLine, rowLine, endLine, statusLine}
+use Rattle.job_report.specs.Lines.{refusedLine, familyLine, faultLine, passLine, writeLine, rowLine, endLine, statusLine}
 use Rattle.job_report.specs.Report.{runLines, jobLines, reportOf, stepLines}
 use Rattle.job_report.specs.Worked.{codesOf, Worked}
 
@@ -39,13 +39,14 @@ unfolding onesIn byFamily opcodeAt decodeOf waitClocks allMarked fetchOf validLo
     enablesAfter valuesAfter overrides1 performOf advanceOf stepOf blankState writeOf readOf afterUpload entryPoint codeAt registerAt
     slotStatus statusWord afterTrigger scriptFits rangesFit runFor slotRunFor canRelease verdictIn auditOf decimalIn decimal hexIn hexWord
     oneMore emptyJob stateAfter boundsAfter columnAfter afterRecord readIn jobReadOf kindOf isOutOfOrder isUnknown isCutShort isTooMany
-    isBadFamily isBadRange writeNumber isBadRow hasBytesAfter endsIdle refusalOf wordAt longAt verdictOf jobRun statusOf familyLine faultLine
+    isBadFamily isBadRange writeNumber isBadRow hasBytesAfter endsIdle refusalOf wordAt longAt verdictOf jobRun statusOf refusedLine familyLine faultLine
     passLine writeLine rowLine endLine statusLine runLines jobLines reportOf stepLines codesOf
 worked = record {
   example = refl;
   slot-b = refl;
   high-code = refl;
   unknown-opcode = refl;
+  past-code-ram = refl;
   paused = (refl, refl);
   flags-0 = refl;
   flags-1 = refl;

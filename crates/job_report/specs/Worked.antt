@@ -157,6 +157,26 @@ unknownOpcodeSteps =
     codesOf "end hang row 0 used 0\n"
     ++ codesOf "status 00000302\n"
 
+-- an upload past the 128 bytes of code RAM that family 2 has: the job is refused
+abbrev pub pastCodeRamJob : List ℕ
+pastCodeRamJob =
+    -- family 2
+    (0x04 ∷ 0x02 ∷ [])
+    -- 001098: HWSQ_ENABLE
+    ++ (0x02 ∷ 0x98 ∷ 0x10 ∷ 0x00 ∷ 0x00 ∷ 0x08 ∷ 0x00 ∷ 0x00 ∷ 0x00 ∷ [])
+    -- code: exit at place 0, and a word at place 128, which is no register
+    ++ (0x02 ∷ 0x00 ∷ 0x14 ∷ 0x00 ∷ 0x00 ∷ 0x7f ∷ 0x7f ∷ 0x7f ∷ 0x7f ∷ [])
+    ++ (0x02 ∷ 0x80 ∷ 0x14 ∷ 0x00 ∷ 0x00 ∷ 0x7f ∷ 0x7f ∷ 0x7f ∷ 0x7f ∷ [])
+    -- 001304: entry point 0 is place 0
+    ++ (0x02 ∷ 0x04 ∷ 0x13 ∷ 0x00 ∷ 0x00 ∷ 0x00 ∷ 0x00 ∷ 0x00 ∷ 0x00 ∷ [])
+    -- 00130c: start slot A at entry point 0
+    ++ (0x02 ∷ 0x0c ∷ 0x13 ∷ 0x00 ∷ 0x00 ∷ 0x03 ∷ 0x00 ∷ 0x00 ∷ 0x00 ∷ [])
+    -- end
+    ++ (0x00 ∷ [])
+
+abbrev pub pastCodeRamReport : List ℕ
+pastCodeRamReport = codesOf "refused 27 at 20\n"
+
 -- the job that was read, and the state that the machine's steps leave of it
 abbrev pub jobIn : List ℕ → Job
 jobIn bytes = jobReadOf bytes .job
@@ -169,6 +189,7 @@ pub record Worked : Type 0 where
   pub slot-b : reportOf slotBJob ≡ slotBReport
   pub high-code : reportOf highCodeJob ≡ highCodeReport
   pub unknown-opcode : reportOf unknownOpcodeJob ≡ unknownOpcodeReport
+  pub past-code-ram : reportOf pastCodeRamJob ≡ pastCodeRamReport
   -- no report tells the flags: memory is paused when slot B starts and not when it is done, and FLAGS then read so
   pub paused : (pausedOf 2 (jobIn slotBJob .state .flags) ≡ true) × (pausedOf 2 (stateLeft slotBJob .flags) ≡ false)
   pub flags-0 : readOf (stateLeft slotBJob) (record { 0 = 0x001310 }) ≡ ReadAnswer.Word 0x00050000
