@@ -7,7 +7,7 @@ use lib.Count.{onesIn}
 use lib.Dec.{eqb}
 use lib.ListN.{length, length-append, length-take}
 use Rattle.isa.proofs.Tests.{cond-elim}
-use Rattle.log_coverage.specs.Coverage.{readingCount, lowestZero, firstMissing}
+use Rattle.log.specs.Coverage.{readingCount, lowestZero, firstMissing}
 use Rattle.log.specs.declared.place.Place.{Place}
 use Rattle.refusals.specs.Number.{faultNumber}
 use Rattle.run.specs.Run.{Write}

@@ -7,7 +7,7 @@ use Rattle.isa.specs.Reader.{decodeOf}
 use Rattle.isa.specs.Wait.{waitClocks}
 use Rattle.isa_fetch.specs.Fetch.{allMarked, fetchOf}
 use Rattle.log.specs.Validity.{validLog, validPlace}
-use Rattle.log_coverage.specs.Coverage.{lowestZero}
+use Rattle.log.specs.Coverage.{lowestZero}
 use Rattle.log_waits.specs.Wait.{waitIn}
 use Rattle.log_ewaits.specs.Ewait.{hasReading, searchIn}
 use Rattle.machine_flags.specs.Flags.{enablesAfter, valuesAfter, overrides1}

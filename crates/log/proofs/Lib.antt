@@ -1,3 +1,4 @@
 pub mod ValidLaws
 pub mod Ranges
 pub mod Columns
+pub mod Masks

@@ -1,3 +1,4 @@
 pub mod Log
 pub mod Rows
 pub mod Validity
+pub mod Coverage
