@@ -6,7 +6,7 @@ ghost use lib.ListN.{length, take};
 ghost use Rattle.job_text.specs.Put.{Stored};
 ghost use Rattle.job_report.specs.Lines.{familyLine, rowLines};
 ghost use Rattle.job_report.specs.Report.{lastLines};
-ghost use Rattle.job_report.specs.Promises.{Reports};
+ghost use Rattle.job_report.specs.Promises.{maxReport, Reports};
 ghost use Rattle.job_output.specs.Inside.{verdictLine};
 use crate::lines::put_end;
 use crate::lines::put_family;
@@ -78,7 +78,7 @@ pub fn report(job: &[u8], out: &mut [u8; MAX_REPORT]) -> usize
 // The family, and the verdict on the script.
 fn put_verdict(out: &mut [u8; MAX_REPORT], family: u8, verdict: Verdict) -> usize
     ensures { λ r. ⌜ Stored (now (out .entry)) 0 (familyLine family ++ verdictLine verdict) r (now (out .exit)) ⌝ }
-    ensures { λ _. ⌜ length (now (out .entry)) ≡ 65536 ⌝ }
+    ensures { λ _. ⌜ length (now (out .entry)) ≡ maxReport ⌝ }
 {
     let a = put_family(out, 0, family);
     match verdict {

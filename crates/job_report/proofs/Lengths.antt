@@ -23,6 +23,7 @@ use Rattle.job_text.specs.Digits.{decimal, hexWord}
 use Rattle.job_report.specs.Lines.{named, hexNamed, refusedLine, familyLine, faultLine, passLine}
 use Rattle.job_report.specs.Lines.{writeLine, writeLines, rowLine, rowLines, endingText, endLine, statusLine}
 use Rattle.job_report.specs.Report.{runLines, verdictLines, jobLines}
+use Rattle.job_report.specs.Promises.{maxReport}
 use Rattle.run.specs.Replay.{endingOf}
 use Rattle.machine_execution.specs.Execution.{executingSlot}
 use Rattle.machine_state.specs.Slot.{withSlot}
@@ -125,7 +126,7 @@ verdict-length j started rows (Verdict.Pass place count writes clocks) =
     omega (arith, length-append pass (runLines j), pass-length (place .0) count writes clocks, run-length j (writes-few j started) rows)
 verdict-length j started rows (Verdict.Fault fault place) = omega (arith, fault-length (faultNumber fault) (place .0))
 
-pub job-length : (j : Job) → Sound j → Started j → length (jobLines j) ≤ 65536
+pub job-length : (j : Job) → Sound j → Started j → length (jobLines j) ≤ maxReport
 unfolding jobLines
 job-length j sound started =
     let rows : length (knownOf j) ≤ 1024 = omega (arith, length-take (j .counts .rows) (j .known), sound .fit .rows) in
