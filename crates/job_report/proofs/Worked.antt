@@ -32,7 +32,7 @@ use Rattle.job_records.specs.Words.{wordAt, longAt}
 use Rattle.job_report.specs.JobScript.{verdictOf, jobRun, statusOf}
 use Rattle.job_report.specs.Lines.{refusedLine, familyLine, faultLine, passLine, writeLine, rowLine, endLine, statusLine}
 use Rattle.job_report.specs.Report.{runLines, jobLines, reportOf, stepLines}
-use Rattle.job_report.specs.Worked.{codesOf, Worked}
+use Rattle.job_report.specs.Worked.{Worked}
 
 pub worked : Worked
 unfolding onesIn byFamily opcodeAt decodeOf waitClocks allMarked fetchOf validLog validPlace lowestZero waitIn hasReading searchIn
@@ -40,7 +40,7 @@ unfolding onesIn byFamily opcodeAt decodeOf waitClocks allMarked fetchOf validLo
     slotStatus statusWord afterTrigger scriptFits rangesFit runFor slotRunFor canRelease verdictIn auditOf decimalIn decimal hexIn hexWord
     oneMore emptyJob stateAfter boundsAfter columnAfter afterRecord readIn jobReadOf kindOf isOutOfOrder isUnknown isCutShort isTooMany
     isBadFamily isBadRange writeNumber isBadRow hasBytesAfter endsIdle refusalOf wordAt longAt verdictOf jobRun statusOf refusedLine familyLine faultLine
-    passLine writeLine rowLine endLine statusLine runLines jobLines reportOf stepLines codesOf
+    passLine writeLine rowLine endLine statusLine runLines jobLines reportOf stepLines
 worked = record {
   example = refl;
   slot-b = refl;

@@ -1,7 +1,5 @@
 -- Worked jobs and their reports, from the bytes on, as closed theorems (01, "A job, and one report whole"). The same jobs stand in jobs/, as hex text.
 use Prim.Native.Nat.{ℕ}
-use Prim.Native.Char.{code}
-use Prim.Native.String.{String, [] as []ˢ, _∷_ as _∷ˢ_}
 use mathlib.Core.Path.{_≡_}
 use mathlib.Core.Bool.{true, false}
 use mathlib.Core.List.{List, [], _∷_, _++_}
@@ -11,13 +9,9 @@ use Rattle.host_registers.specs.Access.{readOf}
 use Rattle.host_registers.specs.declared.access.ReadAnswer.{ReadAnswer}
 use Rattle.job_records.specs.Reader.{jobReadOf}
 use Rattle.job_records.specs.declared.contents.Job.{Job}
+use Rattle.job_report.specs.Words.{codesOf}
 use Rattle.job_report.specs.JobScript.{stepRun}
 use Rattle.job_report.specs.Report.{reportOf, stepLines}
-
--- the character codes of a text
-unfoldable pub codesOf : String → List ℕ
-codesOf []ˢ = []
-codesOf (c ∷ˢ s) = code c ∷ codesOf s
 
 -- 01's own job: family 3, slot A at entry point 0, one write, no rows
 abbrev pub exampleJob : List ℕ
