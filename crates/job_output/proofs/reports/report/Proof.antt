@@ -76,8 +76,8 @@ module _ (c : tie.Else1) where
   abbrev bytes : List ℕ
   bytes = now (entered .args .job)
 
-  abbrev out : List ℕ
-  out = now (entered .args .out)
+  abbrev lent-bytes : List ℕ
+  lent-bytes = now (entered .args .out)
 
   abbrev job : Job
   job = c .before .read-job .result .job
@@ -85,10 +85,10 @@ module _ (c : tie.Else1) where
   ready : ReadyToRun job
   ready = let read = c .before .read-job in record { sound = read .ensures .sound; started = read .ensures .started (c .if1 .left) }
 
-  job-reports : {r : ℕ} {new : List ℕ} → length out ≡ maxReport → Stored out 0 (jobLines job) r new → Reports bytes out new r
+  job-reports : {r : ℕ} {new : List ℕ} → length lent-bytes ≡ maxReport → Stored lent-bytes 0 (jobLines job) r new → Reports bytes lent-bytes new r
   job-reports size h =
       let read = c .before .read-job in
-      reports bytes out (job-is bytes (read .result) (read .ensures .answered) (c .if1 .left)) (job-length job (ready .sound) (ready .started)) size h
+      reports bytes lent-bytes (job-is bytes (read .result) (read .ensures .answered) (c .if1 .left)) (job-length job (ready .sound) (ready .started)) size h
       (λ _.
       subst (λ (r : JobRead). runLines (r .job) ≡ stepLines (r .job)) (read .ensures .answered)
       (follows-steps job (ready .sound) (ready .started)))
@@ -171,17 +171,17 @@ module _ (c : tie.After-answer) where
   abbrev ran-at : tie.After-run-code
   ran-at = c .before .before .before
 
-  abbrev last : Progress
-  last = c .answer .given .0 .0
+  abbrev last-progress : Progress
+  last-progress = c .answer .given .0 .0
 
-  lies : 2 * last .writes ≤ length (new ran-at)
-  lies = entries-lie (job (at-run ran-at)) (ready (at-run ran-at)) _ _ _ (runs ran-at) lent last (c .answer .given .1)
+  lies : 2 * last-progress .writes ≤ length (new ran-at)
+  lies = entries-lie (job (at-run ran-at)) (ready (at-run ran-at)) _ _ _ (runs ran-at) lent last-progress (c .answer .given .1)
 
-  few : last .writes ≤ 170
-  few = entries-few (job (at-run ran-at)) (ready (at-run ran-at)) _ _ _ (runs ran-at) lent last (c .answer .given .1)
+  few : last-progress .writes ≤ 170
+  few = entries-few (job (at-run ran-at)) (ready (at-run ran-at)) _ _ _ (runs ran-at) lent last-progress (c .answer .given .1)
 
-  left : RanJob (job (at-run ran-at)) last (take (2 * last .writes) (new ran-at))
-  left = ran (job (at-run ran-at)) (ready (at-run ran-at)) _ _ _ (runs ran-at) lent last (c .answer .given .1)
+  ran-job : RanJob (job (at-run ran-at)) last-progress (take (2 * last-progress .writes) (new ran-at))
+  ran-job = ran (job (at-run ran-at)) (ready (at-run ran-at)) _ _ _ (runs ran-at) lent last-progress (c .answer .given .1)
 
 -- ---- the lines of a passed script
 
@@ -222,13 +222,13 @@ returns-4 c =
     let d = first .put-verdict2 .last .0 in
     let at = first .put-verdict2 .result in
     let writes = writeLines (jobRun j .writes) in
-    let pairs = ap pairLines (left k .wrote) ∙ pairs-writes (jobRun j .writes) in
+    let pairs = ap pairLines (ran-job k .wrote) ∙ pairs-writes (jobRun j .writes) in
     let run = then d at (writes ++ rowLines 0 (knownOf j)) (lastLines (j .state) (progressOf (jobRun j)))
     (then d at writes (rowLines 0 (knownOf j)) (stored-as _ _ pairs (written .put-writes .ensures)) (known .put-known .ensures))
-    (stored-as _ _ (ap (lastLines (j .state)) (left k .came)) (c .put-last .ensures)) in
+    (stored-as _ _ (ap (lastLines (j .state)) (ran-job k .came)) (c .put-last .ensures)) in
     job-reports e (first .put-verdict2 .ensures .1)
     (stored-as _ _ (pass-lines j (family-is a) (verdict-is a) (told .enum-told .given .1))
-    (then (out e) 0 _ (runLines j) (first .put-verdict2 .ensures .0) run))
+    (then (lent-bytes e) 0 _ (runLines j) (first .put-verdict2 .ensures .0) run))
 
 pub report-spec : {M : Type 1} → statement M
 report-spec =

@@ -8,9 +8,9 @@ use Rattle.probe_gates.proofs.sampling.usable.Statement.{statement}
 use Rattle.probe_gates.proofs.sampling.usable.Tie as tie
 
 -- what was tested is gain and offset
-finite : (t : tie.After-both-finite) {b : Bool} → t .both-finite .result ≡ b
+finite-so : (t : tie.After-both-finite) {b : Bool} → t .both-finite .result ≡ b
     → (isFinite (t .before .args .calibration .gain) && isFinite (t .before .args .calibration .offset)) ≡ b
-finite t h = sym (t .both-finite .ensures) ∙ h
+finite-so t h = sym (t .both-finite .ensures) ∙ h
 
 returns : tie.Need-returns
 returns c =
@@ -18,7 +18,7 @@ returns c =
     let passed = told .before .before in
     let test = passed .before in
     admits (test .before .args .gate) (test .before .args .calibration) _
-    (simp (finite test (passed .if1 .taken), told .gate .given .1) (c .levels-fit .ensures))
+    (simp (finite-so test (passed .if1 .taken), told .gate .given .1) (c .levels-fit .ensures))
 
 returns-2 : tie.Need-returns-2
 returns-2 c =
@@ -26,18 +26,18 @@ returns-2 c =
     let passed = told .before .before in
     let test = passed .before in
     admits (test .before .args .gate) (test .before .args .calibration) _
-    (simp (finite test (passed .if1 .taken), told .gate2 .given .1) (c .levels-fit2 .ensures))
+    (simp (finite-so test (passed .if1 .taken), told .gate2 .given .1) (c .levels-fit2 .ensures))
 
 returns-3 : tie.Need-returns-3
 returns-3 c =
     let passed = c .before .before in
     let test = passed .before in
-    admits (test .before .args .gate) (test .before .args .calibration) _ (simp (finite test (passed .if1 .taken), c .enum-told .given .1))
+    admits (test .before .args .gate) (test .before .args .calibration) _ (simp (finite-so test (passed .if1 .taken), c .enum-told .given .1))
 
 returns-4 : tie.Need-returns-4
 returns-4 c =
     let test = c .before in
-    admits (test .before .args .gate) (test .before .args .calibration) _ (rw (finite test (c .if1 .left)))
+    admits (test .before .args .gate) (test .before .args .calibration) _ (rw (finite-so test (c .if1 .left)))
 
 pub usable-spec : {M : Type 1} → statement M
 usable-spec =
