@@ -11,11 +11,11 @@ returns c =
     let hangs = pauses .before in
     simp (
       hangs .before .unknown-number .ensures,
-      hangs .unknown-hangs .ensures,
-      pauses .pauses-memory .ensures,
-      size .code-size .ensures,
-      slots .slot-count .ensures,
-      c .highest-entry .ensures,
+      hangs .unknown-hangs .ensures .answered,
+      pauses .pauses-memory .ensures .answered,
+      size .code-size .ensures .answered,
+      slots .slot-count .ensures .answered,
+      c .highest-entry .ensures .answered,
     )
 
 pub hwsq-family-spec : {M : Type 1} → statement M

@@ -7,7 +7,7 @@ use Rattle.host_access.proofs.addresses.code_at.Statement.{statement}
 use Rattle.host_access.proofs.addresses.code_at.Tie as tie
 
 returns : tie.Need-returns
-returns c = rw (c .before .code-size .ensures) at (c .code-in .ensures) ∙ in-code _ _ (omega arith) (omega arith)
+returns c = rw (c .before .code-size .ensures .answered) at (c .code-in .ensures) ∙ in-code _ _ (omega arith) (omega arith)
 
 returns-2 : tie.Need-returns-2
 returns-2 c = rw (c .before .high-window .ensures) at (c .code-in2 .ensures) ∙ in-new-code _ _ (omega arith) (omega arith)

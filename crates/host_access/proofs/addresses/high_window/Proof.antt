@@ -5,7 +5,7 @@ use Rattle.host_access.proofs.addresses.high_window.Statement.{statemen
 use Rattle.host_access.proofs.addresses.high_window.Tie as tie
 
 returns : tie.Need-returns
-returns c = simp (sym (c .before .before .is-high .ensures) ∙ c .before .if1 .taken, c .code-size .ensures)
+returns c = simp (sym (c .before .before .is-high .ensures) ∙ c .before .if1 .taken, c .code-size .ensures .answered)
 
 returns-2 : tie.Need-returns-2
 returns-2 c = simp (sym (c .before .is-high .ensures) ∙ c .if1 .left)

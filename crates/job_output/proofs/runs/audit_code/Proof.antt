@@ -15,10 +15,10 @@ abbrev entered : tie.After-audit-arg → tie.Start
 entered c = let last = sized c .before in last .before .before .before
 
 slice-aggregate-audit : tie.Need-slice-aggregate-audit
-slice-aggregate-audit c = part-length _ _ (omega (arith, sized c .code-size .ensures, entered c .pre .0 .0))
+slice-aggregate-audit c = part-length _ _ (omega (arith, sized c .code-size .ensures .answered, entered c .pre .0 .0))
 
 slice-aggregate-audit-2 : tie.Need-slice-aggregate-audit-2
-slice-aggregate-audit-2 c = let s = c .before in part-length _ _ (omega (arith, sized s .code-size .ensures, entered s .pre .0 .1))
+slice-aggregate-audit-2 c = let s = c .before in part-length _ _ (omega (arith, sized s .code-size .ensures .answered, entered s .pre .0 .1))
 
 slice-aggregate-audit-3 : tie.Need-slice-aggregate-audit-3
 slice-aggregate-audit-3 c = part-length _ _ (entered (c .before .before) .pre .1 .0)
@@ -28,7 +28,7 @@ returns c =
     let parts = c .before .before .before in
     let a = entered parts .args in
     let slot = parts .before .executing .ensures (now (a .code)) (now (a .marks)) in
-    c .audit .ensures .answered ∙ simp (sized parts .code-size .ensures, slot)
+    c .audit .ensures .answered ∙ simp (sized parts .code-size .ensures .answered, slot)
 
 pub audit-code-spec : {M : Type 1} → statement M
 audit-code-spec =

@@ -17,10 +17,10 @@ entered c =
     clocks .before .before .before
 
 slice-aggregate-run : tie.Need-slice-aggregate-run
-slice-aggregate-run c = part-length _ _ (omega (arith, sized c .code-size .ensures, entered c .pre .0 .0))
+slice-aggregate-run c = part-length _ _ (omega (arith, sized c .code-size .ensures .answered, entered c .pre .0 .0))
 
 slice-aggregate-run-2 : tie.Need-slice-aggregate-run-2
-slice-aggregate-run-2 c = let s = c .before in part-length _ _ (omega (arith, sized s .code-size .ensures, entered s .pre .0 .1))
+slice-aggregate-run-2 c = let s = c .before in part-length _ _ (omega (arith, sized s .code-size .ensures .answered, entered s .pre .0 .1))
 
 slice-aggregate-run-3 : tie.Need-slice-aggregate-run-3
 slice-aggregate-run-3 c = part-length _ _ (entered (c .before .before) .pre .1 .0)
@@ -38,7 +38,7 @@ returns c =
     let parts = known .before .before .before in
     let a = entered parts .args in
     let slot = parts .before .before .executing .ensures (now (a .code)) (now (a .marks)) in
-    simp (sized parts .code-size .ensures, slot) at (run .run .ensures)
+    simp (sized parts .code-size .ensures .answered, slot) at (run .run .ensures)
 
 pub run-code-spec : {M : Type 1} → statement M
 run-code-spec =

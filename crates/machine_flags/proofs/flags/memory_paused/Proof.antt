@@ -13,7 +13,7 @@ returns c =
     let pauses = c .before .before .before in
     let test = pauses .before in
     rw (
-      sym (test .pauses-memory .ensures) ∙ pauses .if1 .taken,
+      sym (test .pauses-memory .ensures .answered) ∙ pauses .if1 .taken,
       eq-eqb (test .before .args .flags .enables / 2 ^ 16 % 2) 1 (c .before .if2 .taken),
     )
 
@@ -23,13 +23,13 @@ returns-2 c =
     let pauses = c .before .before in
     let test = pauses .before in
     rw (
-      sym (test .pauses-memory .ensures) ∙ pauses .if1 .taken,
+      sym (test .pauses-memory .ensures .answered) ∙ pauses .if1 .taken,
       ne-eqb (test .before .args .flags .enables / 2 ^ 16 % 2) 1 (c .if2 .left),
     )
 
 returns-3 : tie.Need-returns-3
 unfolding overrides1
-returns-3 c = rw (sym (c .before .pauses-memory .ensures) ∙ c .if1 .left)
+returns-3 c = rw (sym (c .before .pauses-memory .ensures .answered) ∙ c .if1 .left)
 
 pub memory-paused-spec : {M : Type 1} → statement M
 memory-paused-spec =

@@ -8,7 +8,7 @@ use Rattle.machine_slot.proofs.slot_steps.unfetched.Tie as tie
 returns : tie.Need-returns
 returns c =
     let hangs = c .before .before in
-    simp (hangs .before .before .enum-told .given .1, c .unmoved .ensures, c .before .hung-if .ensures, hangs .unknown-hangs .ensures)
+    simp (hangs .before .before .enum-told .given .1, c .unmoved .ensures, c .before .hung-if .ensures, hangs .unknown-hangs .ensures .answered)
 
 returns-2 : tie.Need-returns-2
 returns-2 c =

@@ -38,7 +38,7 @@ small : {size : ℕ} (family : ℕ) → size ≡ codeSize family → size ≤ 51
 small family e = omega (arith, e, size-small family)
 
 add-limit : tie.Need-add-limit Inv-loop μ-loop
-add-limit c = omega (arith, small _ (c .code-size .ensures))
+add-limit c = omega (arith, small _ (c .code-size .ensures .answered))
 
 loop-holds : tie.Need-loop-holds Inv-loop μ-loop
 unfolding slotRunFor
@@ -102,7 +102,7 @@ module _ (c : tie.After-take-slot-step Inv-loop μ-loop) where
   runs-on = sym (c .before .before .is-running .ensures) ∙ not-false _ (c .before .if2 .left)
 
   few : loop .loop .steps ≤ 512
-  few = omega (arith, small _ (loop .before .before .code-size .ensures))
+  few = omega (arith, small _ (loop .before .before .code-size .ensures .answered))
 
   slot-step-fits-at : (loop .loop .progress .steps < 1024) × (loop .loop .progress .writes < 1024)
       × (loop .loop .progress .waited + c .take-slot-step .result .waited < 2 ^ 64)
@@ -167,7 +167,7 @@ same-length c = same (c .before)
 returns : tie.Need-returns Inv-loop μ-loop
 returns c =
     let l = c .before in
-    ended l (ap (run (scene l) (slot l) (flags l)) (omega (arith, l .before .before .code-size .ensures)))
+    ended l (ap (run (scene l) (slot l) (flags l)) (omega (arith, l .before .before .code-size .ensures .answered)))
 
 same-length-2 : tie.Need-same-length-2 Inv-loop μ-loop
 same-length-2 c = same (looped (c .before))
@@ -178,7 +178,7 @@ returns-2 c =
     let rests = sym (c .before .is-running .ensures) ∙ not-true _ (c .if2 .taken) in
     ended l
     (run-rests (scene l) (slot l) (flags l) (l .loop .steps) (ap (λ (p : Progress). isRunning (p .slot .mode)) (sym (l .loop .inv .0)) ∙ rests)
-    (omega (arith, l .before .before .code-size .ensures)))
+    (omega (arith, l .before .before .code-size .ensures .answered)))
 
 -- a step that fetched nothing
 abbrev slot-step-stopped : tie.Then3 Inv-loop μ-loop → tie.After-take-slot-step Inv-loop μ-loop
@@ -194,7 +194,7 @@ returns-3 c =
     ended l
     (run-stopped (scene l) (slot l) (flags l) (low l) (entered l .pre .1)
     (l .loop .steps) (l .loop .progress) (l .loop .inv .0) (runs-on t) (t .take-slot-step .result) (t .take-slot-step .ensures)
-    (sym (c .before .fetched .ensures) ∙ c .if3 .taken) (omega (arith, l .before .before .code-size .ensures)))
+    (sym (c .before .fetched .ensures) ∙ c .if3 .taken) (omega (arith, l .before .before .code-size .ensures .answered)))
 
 pub run-slot-steps-spec : {M : Type 1} → statement M
 run-slot-steps-spec =

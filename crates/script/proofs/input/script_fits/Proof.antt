@@ -29,11 +29,11 @@ module _ (c : tie.Else2) where
   x = script (c .before .before)
 
   code-size : length (x .code) ≡ codeSize (x .family)
-  code-size = c .if2 .left ∙ c .before .code-size .ensures
+  code-size = c .if2 .left ∙ c .before .code-size .ensures .answered
 
 -- and so are the marks
 marks-size : (c : tie.Else3) → (let x = x (c .before .before) in length (x .marks) ≡ codeSize (x .family))
-marks-size c = c .if3 .left ∙ c .before .code-size2 .ensures
+marks-size c = c .if3 .left ∙ c .before .code-size2 .ensures .answered
 
 returns : tie.Need-returns
 unfolding scriptFits
@@ -43,7 +43,7 @@ returns-2 : tie.Need-returns-2
 unfolding scriptFits
 returns-2 c =
     let e = c .before .before in
-    let other = ne-eqb (length (script e .code)) (codeSize (script e .family)) (λ same. c .if2 .taken (same ∙ sym (c .before .code-size .ensures))) in
+    let other = ne-eqb (length (script e .code)) (codeSize (script e .family)) (λ same. c .if2 .taken (same ∙ sym (c .before .code-size .ensures .answered))) in
     simp (known e, other)
 
 returns-3 : tie.Need-returns-3
@@ -51,7 +51,7 @@ unfolding scriptFits
 returns-3 c =
     let e = c .before .before in
     let size = codeSize (x e .family) in
-    let other = ne-eqb (length (x e .marks)) size (λ same. c .if3 .taken (same ∙ sym (c .before .code-size2 .ensures))) in
+    let other = ne-eqb (length (x e .marks)) size (λ same. c .if3 .taken (same ∙ sym (c .before .code-size2 .ensures .answered))) in
     simp (known (e .before .before), eq-eqb (length (x e .code)) size (code-size e), other)
 
 returns-4 : tie.Need-returns-4
@@ -74,7 +74,7 @@ returns-5 c =
     let sized = plain .before .before in
     let e = sized .before .before in
     let marks-plain = sym (plain .before .marks-plain .ensures) ∙ not-false _ (plain .if4 .left) in
-    ap (leb (x e .entry)) (c .before .highest-entry .ensures)
+    ap (leb (x e .entry)) (c .before .highest-entry .ensures .answered)
     ∙ last-decides (x e) (known (e .before .before)) (code-size e) (marks-size sized) marks-plain
 
 pub script-fits-spec : {M : Type 1} → statement M
