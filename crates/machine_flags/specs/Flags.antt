@@ -1,5 +1,6 @@
 -- The flags, and whether memory is paused (01, "Steps and time" and "Host registers"; 004, "Flags").
-use Prim.Native.Nat.{ℕ, _+_, _*_, _/_, _%_, _^_}
+use Prim.Native.Nat.{ℕ, _+_, _*_, _/_, _%_, _^_, _≤_, _<_}
+use mathlib.Core.Path.{_≡_}
 use mathlib.Core.Bool.{Bool, cond, _&&_}
 use lib.Bits.{bitAnd, bitOr, bitXor}
 use lib.Dec.{ltb, eqb}
@@ -31,9 +32,42 @@ changedFlags change flag flags =
     (record { values = valuesAfter change flag (flags .values); enables = enablesAfter change flag (flags .enables) })
     flags
 
+-- ---- what a change promises, bit by bit
+
+-- bit n of a word
+abbrev pub bitOf : ℕ → ℕ → ℕ
+bitOf word n = word / 2 ^ n % 2
+
+-- the flag's own enable after a change: unset clears it, set1 and set0 set it
+abbrev pub enableAfter : Change → ℕ
+enableAfter Change.Unset = 0
+enableAfter Change.Set1 = 1
+enableAfter Change.Set0 = 1
+
+-- its value bit, from what it was: unset keeps it, set1 sets and set0 clears it
+abbrev pub valueAfter : Change → ℕ → ℕ
+valueAfter Change.Unset value = value
+valueAfter Change.Set1 value = 1
+valueAfter Change.Set0 value = 0
+
+-- bit n of either word is as it was
+abbrev pub SameBits : ℕ → Flags → Flags → Type 0
+SameBits n old new = (bitOf (new .enables) n ≡ bitOf (old .enables) n) × (bitOf (new .values) n ≡ bitOf (old .values) n)
+
+pub record ChangesFlags (change : Change) (flag : ℕ) (old new : Flags) : Type 0 where
+  pub answered : new ≡ changedFlags change flag old
+  pub enable : flag < 32 → bitOf (new .enables) flag ≡ enableAfter change
+  pub value : flag < 32 → bitOf (new .values) flag ≡ valueAfter change (bitOf (old .values) flag)
+  -- no other bit moves
+  pub others : (n : ℕ) → (n ≡ flag → ⊥) → SameBits n old new
+  -- there is no flag above 31
+  pub above : 32 ≤ flag → new ≡ old
+
+-- ---- what flags say
+
 -- a flag is at override 1 where its enable and its value are 1
 unfoldable pub overrides1 : ℕ → Flags → Bool
-overrides1 n flags = eqb (flags .enables / 2 ^ n % 2) 1 && eqb (flags .values / 2 ^ n % 2) 1
+overrides1 n flags = eqb (bitOf (flags .enables) n) 1 && eqb (bitOf (flags .values) n) 1
 
 -- the flag whose override pauses memory
 abbrev pub fbPause : ℕ

@@ -1,6 +1,6 @@
 // The 32 flags: bit f of a word for flag f.
 ghost use mathlib.Core.Path.{_≡_};
-ghost use Rattle.machine_flags.specs.Flags.{changedFlags, pausedOf, flagsWord0, flagsWord1, flagsFromWords};
+ghost use Rattle.machine_flags.specs.Flags.{ChangesFlags, pausedOf, flagsWord0, flagsWord1, flagsFromWords};
 
 // What an instruction does to a flag.
 pub enum Change {
@@ -19,7 +19,7 @@ pub const FB_PAUSE: u8 = 16;
 
 // The flags after a change of one of them. There is no flag above 31.
 pub fn changed_flags(change: Change, flag: u8, flags: Flags) -> Flags
-    ensures { λ r. ⌜ r ≡ changedFlags change flag flags ⌝ }
+    ensures { λ r. ⌜ ChangesFlags change flag flags r ⌝ }
 {
     if 32 <= flag {
         return flags;

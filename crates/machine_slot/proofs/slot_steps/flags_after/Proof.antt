@@ -5,7 +5,7 @@ use Rattle.machine_slot.proofs.slot_steps.flags_after.Statement.{statem
 use Rattle.machine_slot.proofs.slot_steps.flags_after.Tie as tie
 
 returns : tie.Need-returns
-returns c = simp (c .before .before .action .given .1, c .changed-flags .ensures)
+returns c = simp (c .before .before .action .given .1, c .changed-flags .ensures .answered)
 
 returns-2 : tie.Need-returns-2
 returns-2 c = flags-stay (c .before .args .action) (c .before .args .flags) (c .match .keys2)
