@@ -12,11 +12,12 @@ use Rattle.log_waits.specs.Left.{leftFrom, leftOf}
 use Rattle.log.specs.Log.{Log}
 use Rattle.log.specs.Validity.{validLog, validPlace}
 use Rattle.log_ewaits.specs.Ewait.{bitOf, hasReading, passing, searchIn, searchFrom, in64, ewaitOf}
-use Rattle.log_ewaits.specs.Ewait.{passedBy, OnReading, leftAfter, SameReadings, withValues, Ewaits}
+use Rattle.log_ewaits.specs.Ewait.{passedBy, ReadsAsked, OnReading, FirstFrom, leftAfter, SameReadings, withValues, Ewaits}
 use Rattle.log_ewaits.specs.declared.ewait.Released.{Released}
 use Rattle.log.specs.declared.place.Place.{Place}
 use Rattle.log.proofs.ValidLaws.{valid-row-start}
 use Rattle.log_waits.proofs.LeftLaws.{rows-left, left-end, left-on, left-fits}
+use Rattle.log_ewaits.proofs.FirstRow.{ewait-first}
 
 -- ---- clocks passed by, added up and kept in 64 bits
 
@@ -156,7 +157,7 @@ module _ (log : Log) (event value : ℕ) where
 
   -- ---- what is promised
 
-  reading : (row : ℕ) → readsAt row ≡ true → (event < 32) × (bitOf (getD (log .known) row 0) event ≡ 1) × (bitOf (getD (log .values) row 0) event ≡ value)
+  reading : (row : ℕ) → readsAt row ≡ true → ReadsAsked log event value row
   unfolding hasReading
   reading row t =
       let one = and-eq-true-iff (ltb event 32) _ .0 t in
@@ -242,6 +243,7 @@ pub ewaits : (log : Log) (p : Place) (event value : ℕ) (answer : Released) →
 ewaits log p event value answer e = record {
   answered = e;
   on-reading = subst (OnReading log event value) (sym e) (ewait-on-reading log event value p);
+  first = subst (FirstFrom log event value (p .row) (p .used)) (sym e) (ewait-first log event value p);
   unread = λ others s. e ∙ ewait-unread log p event value others s;
   spent = λ l. subst (λ (r : Released). leftOf (log .clocks) p ≡ passedBy r + leftAfter (log .clocks) r) (sym e) (ewait-spent log event value p l);
 }

@@ -1,5 +1,5 @@
 -- A wait for an event (01, "Steps and time").
-use Prim.Native.Nat.{ℕ, zero, suc, _+_, _-_, _/_, _%_, _^_, _<_}
+use Prim.Native.Nat.{ℕ, zero, suc, _+_, _-_, _/_, _%_, _^_, _≤_, _<_}
 use mathlib.Core.Path.{_≡_}
 use mathlib.Core.Bool.{Bool, cond, _&&_}
 use mathlib.Core.List.{List}
@@ -47,11 +47,28 @@ abbrev pub passedBy : Released → ℕ
 passedBy (Released.At p n) = n
 passedBy (Released.End n) = n
 
--- an event with no reading releases no wait: the row that releases has one, known bit 1 and value bit as asked
+-- the row has the reading that is asked for: known bit 1, value bit as asked, of an event below 32
+abbrev pub ReadsAsked : Log → ℕ → ℕ → ℕ → Type 0
+ReadsAsked log event value row = (event < 32) × (bitOf (getD (log .known) row 0) event ≡ 1) × (bitOf (getD (log .values) row 0) event ≡ value)
+
+-- an event with no reading releases no wait: the row that releases has the one that is asked for
 abbrev pub OnReading : Log → ℕ → ℕ → Released → Type 0
-OnReading log event value (Released.At p n) =
-    (event < 32) × (bitOf (getD (log .known) (p .row) 0) event ≡ 1) × (bitOf (getD (log .values) (p .row) 0) event ≡ value)
+OnReading log event value (Released.At p n) = ReadsAsked log event value (p .row)
 OnReading log event value (Released.End n) = Unit {0}
+
+-- released at place p with n clocks passed by, from a row with so many used: that row or a later one, and the first with the reading
+pub record AtFirst (log : Log) (event value row used : ℕ) (p : Place) (n : ℕ) : Type 0 where
+  pub from : row ≤ p .row
+  pub inside : p .row < length (log .clocks)
+  pub none-before : (earlier : ℕ) → row ≤ earlier → earlier < p .row → ReadsAsked log event value earlier → ⊥
+  -- at the start of a later row; the present row releases where the wait stands, and no clock passes by
+  pub later : row < p .row → p .used ≡ 0
+  pub present : p .row ≡ row → (p .used ≡ used) × (n ≡ 0)
+
+-- released at the first row from the present one on; at the log's end no such row has the reading
+abbrev pub FirstFrom : Log → ℕ → ℕ → ℕ → ℕ → Released → Type 0
+FirstFrom log event value row used (Released.At p n) = AtFirst log event value row used p n
+FirstFrom log event value row used (Released.End n) = (other : ℕ) → row ≤ other → other < length (log .clocks) → ReadsAsked log event value other → ⊥
 
 -- what is left from where the search ended
 abbrev pub leftAfter : List ℕ → Released → ℕ
@@ -70,6 +87,7 @@ withValues log others = logOf (log .clocks) (log .known) others
 pub record Ewaits (log : Log) (p : Place) (event value : ℕ) (answer : Released) : Type 0 where
   pub answered : answer ≡ ewaitOf log p event value
   pub on-reading : OnReading log event value answer
+  pub first : FirstFrom log event value (p .row) (p .used) answer
   -- value bits without a known bit change no answer
   pub unread : (others : List ℕ) → SameReadings log others event → answer ≡ ewaitOf (withValues log others) p event value
   -- what it passed by and what is left are what was left before, where that fits 64 bits
