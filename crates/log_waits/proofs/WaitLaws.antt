@@ -1,13 +1,14 @@
 -- A wait, row by row; what it spends and where it ends. Assumes nothing.
 use Prim.Native.Nat.{ℕ, zero, suc, _+_, _-_, _<_, _≤_}
 use mathlib.Core.Path.{_≡_, refl}
-use mathlib.Core.Bool.{true}
+use mathlib.Core.Bool.{Bool, true, false, cond}
 use mathlib.Core.List.{List}
 use native.Mathlib.Decide.{decLt}
 use native.Mathlib.Omega.{arith}
 use lib.ListN.{length, getD}
-use borrow.Author.Tests.{lt-ltb, le-ltb}
-use Rattle.log_waits.specs.Left.{leftFrom, leftOf}
+use lib.Dec.{ltb}
+use borrow.Author.Tests.{lt-ltb, le-ltb, ltb-true, ltb-false}
+use Rattle.log_waits.specs.Left.{leftIn, leftFrom, leftOf}
 use Rattle.log.specs.Log.{Log}
 use Rattle.log.specs.Validity.{validLog, validPlace}
 use Rattle.log_waits.specs.Wait.{waitIn, waitFrom, waitOf, Waits}
@@ -15,6 +16,22 @@ use Rattle.log.specs.declared.place.Place.{Place}
 use Rattle.log_waits.specs.declared.wait.Waited.{Waited}
 use Rattle.log.proofs.ValidLaws.{valid-in-row, valid-at-end, row-within}
 use Rattle.log_waits.proofs.LeftLaws.{rows-left, left-end, left-on}
+
+-- the log's end cuts off of a wait what is more than was left
+cut-in : (rows : ℕ) (clocks : List ℕ) (row used n : ℕ) → waitIn rows clocks row used n .cut ≡ n - leftIn rows clocks row used
+unfolding waitIn leftIn
+cut-in zero clocks row used n = omega arith
+cut-in (suc rows) clocks row used n =
+    let rest = getD clocks row 0 - used in
+    pick (λ (w : Waited). w .cut ≡ n - (rest + leftIn rows clocks (row + 1) 0)) (ltb n rest) (λ t. omega (arith, ltb-true n rest t))
+    (λ t. omega (arith, ltb-false n rest t, cut-in rows clocks (row + 1) 0 (n - rest)))
+  where
+    pick : (P : Waited → Type 0) (c : Bool) {a b : Waited} → (c ≡ true → P a) → (c ≡ false → P b) → P (cond c a b)
+    pick P true f g = f refl
+    pick P false f g = g refl
+
+pub wait-cut : (clocks : List ℕ) (p : Place) (n : ℕ) → waitOf clocks p n .cut ≡ n - leftOf clocks p
+wait-cut clocks p n = cut-in (length clocks - p .row) clocks (p .row) (p .used) n
 
 module _ (clocks : List ℕ) (row used n : ℕ) where
   pub wait-end : length clocks ≤ row → waitFrom clocks row used n ≡ record { place = record { row = row; used = 0 }; cut = n }
@@ -52,15 +69,6 @@ wait-elim clocks P at-end inside onward row used n = by (length clocks - row) ro
               rw (wait-on clocks row used n h k) (onward row used n (waitFrom clocks (row + 1) 0 (n - rest)) h k later)
         ]
 
--- the log's end cuts off of a wait what is more than was left
-pub wait-cut : (clocks : List ℕ) (p : Place) (n : ℕ) → waitOf clocks p n .cut ≡ n - leftOf clocks p
-wait-cut clocks p n =
-    wait-elim clocks (λ row used n w. w .cut ≡ n - leftFrom clocks row used)
-    (λ row used n h. omega (arith, left-end clocks row used h))
-    (λ row used n h l. omega (arith, left-on clocks row used h))
-    (λ row used n w h l k. omega (arith, left-on clocks row used h))
-    (p .row) (p .used) n
-
 -- what it spent and what is left are what was left before
 pub wait-spent : (clocks : List ℕ) (p : Place) (n : ℕ) → leftOf clocks p ≡ (n - waitOf clocks p n .cut) + leftOf clocks (waitOf clocks p n .place)
 wait-spent clocks p n =
@@ -92,4 +100,9 @@ wait-valid log valid p n v =
 
 -- all that a wait promises
 pub waits : (clocks : List ℕ) (p : Place) (n : ℕ) (answer : Waited) → answer ≡ waitOf clocks p n → Waits clocks p n answer
-waits clocks p n answer e = record { answered = e; within = rw e (omega (arith, wait-cut clocks p n)); spent = rw e (wait-spent clocks p n) }
+waits clocks p n answer e = record {
+  answered = e;
+  lacks = rw e (wait-cut clocks p n);
+  within = rw e (omega (arith, wait-cut clocks p n));
+  spent = rw e (wait-spent clocks p n);
+}

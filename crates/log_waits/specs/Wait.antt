@@ -27,6 +27,8 @@ waitOf clocks p n = waitFrom clocks (p .row) (p .used) n
 -- what a wait promises of its answer
 pub record Waits (clocks : List ℕ) (p : Place) (n : ℕ) (answer : Waited) : Type 0 where
   pub answered : answer ≡ waitOf clocks p n
+  -- its cut is what the log lacks: a wait that its last clock completes is done, and a wait of 0 needs no row
+  pub lacks : answer .cut ≡ n - leftOf clocks p
   -- it is cut by no more than its length
   pub within : answer .cut ≤ n
   -- what it spent and what is left are what was left before

@@ -1,2 +1,3 @@
 mod Others
+pub mod DoneLaws
 pub mod TimeLaws

@@ -1,10 +1,13 @@
 -- How time passes during an action (01, "Steps and time": only wait and ewait use clocks).
-use Prim.Native.Nat.{ℕ, _-_}
+use Prim.Native.Nat.{ℕ, _-_, _≤_, _<_}
+use mathlib.Core.Path.{_≡_}
+use mathlib.Core.Logic.{_↔_}
 use mathlib.Core.Bool.{true, false}
 use lib.ListN.{length}
 use lib.Dec.{eqb}
+use Rattle.log_waits.specs.Left.{leftOf}
 use Rattle.log_waits.specs.Wait.{waitOf}
-use Rattle.log_ewaits.specs.Ewait.{ewaitOf}
+use Rattle.log_ewaits.specs.Ewait.{ewaitOf, ReadsAsked}
 use Rattle.log_ewaits.specs.declared.ewait.Released.{Released}
 use Rattle.log.specs.Log.{Log}
 use Rattle.log.specs.declared.place.Place.{Place}
@@ -31,3 +34,19 @@ elapsedOf (Action.Flag change flag) log p = atOnce p
 elapsedOf (Action.Load part word) log p = atOnce p
 elapsedOf (Action.Poke part word) log p = atOnce p
 elapsedOf Action.Exit log p = atOnce p
+
+-- ---- what is promised of it
+
+-- a wait is done where the log has its clocks, an ewait where a row from the present one on has the reading, all else at once
+abbrev pub DoneWhere : Action → Log → Place → Type 0
+DoneWhere (Action.Wait n) log p = n ≤ leftOf (log .clocks) p
+DoneWhere (Action.Ewait event value) log p = (row : ℕ) × (p .row ≤ row) × (row < length (log .clocks)) × ReadsAsked log event value row
+DoneWhere (Action.Flag change flag) log p = Unit {0}
+DoneWhere (Action.Load part word) log p = Unit {0}
+DoneWhere (Action.Poke part word) log p = Unit {0}
+DoneWhere Action.Exit log p = Unit {0}
+
+pub record Elapses (action : Action) (log : Log) (p : Place) (answer : Elapsed) : Type 0 where
+  pub answered : answer ≡ elapsedOf action log p
+  -- finished exactly there
+  pub finishes : (answer .finished ≡ true) ↔ DoneWhere action log p

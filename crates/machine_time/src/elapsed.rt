@@ -1,6 +1,6 @@
 // How time passes during an action.
 ghost use mathlib.Core.Path.{_≡_};
-ghost use Rattle.machine_time.specs.Time.{atOnce, afterWait, afterEwait, elapsedOf};
+ghost use Rattle.machine_time.specs.Time.{atOnce, afterWait, afterEwait, Elapses};
 ghost use Rattle.log_waits.specs.Wait.{waitOf};
 ghost use Rattle.log.specs.Log.{logOf};
 use log::Place;
@@ -67,7 +67,7 @@ pub fn elapse<'a>(
     values: &'a [u32],
     at: Place,
 ) -> Elapsed
-    ensures { λ r. ⌜ r ≡ elapsedOf action (logOf (now (clocks .entry)) (now (known .entry)) (now (values .entry))) at ⌝ }
+    ensures { λ r. ⌜ Elapses action (logOf (now (clocks .entry)) (now (known .entry)) (now (values .entry))) at r ⌝ }
 {
     match action {
         Action::Wait(n) => after_wait(clocks, at, n),

@@ -87,7 +87,7 @@ returns-3 c =
     let at : fetched f ≡ Decoded.Instruction (told .0 .0) (told .0 .1 .0) = sym (f .fetch .ensures .answered) ∙ told .1 in
     let step = c .before .perform .ensures
     ∙ slot-step-performed (s .family) (s .code) (s .marks) (s .enable) (slot f) (s .flags) (log f) (entered f .args .at) (told .0 .0) (told .0 .1 .0) at
-    (acts .action-of .result) (acts .action-of .ensures) (time .elapse .result) (time .elapse .ensures) in
+    (acts .action-of .result) (acts .action-of .ensures) (time .elapse .result) (time .elapse .ensures .answered) in
     c .after-slot-step2 .ensures ∙ stepped f (c .before .perform .result) step
 
 pub advance-spec : {M : Type 1} → statement M

@@ -55,7 +55,7 @@ returns-2 c =
     c .perform .ensures
     ∙ slot-step-performed (a .family) (now (a .code)) (now (a .marks)) (a .enable) (p .slot) (p .flags) (log f) (p .place)
     (told .0 .0) (told .0 .1 .0) (sym (f .fetch .ensures .answered) ∙ told .1)
-    (acts .action-of .result) (acts .action-of .ensures) (c .before .before .elapse .result) (c .before .before .elapse .ensures)
+    (acts .action-of .result) (acts .action-of .ensures) (c .before .before .elapse .result) (c .before .before .elapse .ensures .answered)
 
 pub take-slot-step-spec : {M : Type 1} → statement M
 take-slot-step-spec =
