@@ -1,11 +1,51 @@
--- Laws of hex words: how the digits are made from the last to the first, and how many there are.
-use mathlib.Core.Path.{_≡_, refl, ap, sym, _∙_}
+-- Laws of hex words: what the digits are read as, how they are made from the last to the first, and how many there are.
+use mathlib.Core.Path.{_≡_, refl, ap, sym, subst, _∙_}
+use mathlib.Core.Bool.{Bool, true, false, cond}
 use mathlib.Core.List.{List, [], _∷_, _++_, append-assoc}
-use Prim.Native.Nat.{ℕ, zero, suc, _-_, _/_, _≤_, _<_}
+use Prim.Native.Nat.{ℕ, zero, suc, _+_, _-_, _*_, _/_, _%_, _^_, _≤_, _<_}
+use native.Mathlib.Nat.{pow-suc, div-lt-iff-lt-mul}
 use native.Mathlib.Omega.{arith}
+use lib.Dec.{ltb, lit<}
 use lib.ListN.{length, drop, set, length-append}
+use borrow.Author.Tests.{lt-ltb, le-ltb, ltb-true, ltb-false}
 use Rattle.job_text.proofs.Backwards.{less, stored}
-use Rattle.job_text.specs.Digits.{hexDigit, hexIn, hexWord}
+use Rattle.job_text.specs.Digits.{hexDigit, hexIn, hexWord, hexValue, readHexOn}
+
+-- ---- what they are read as
+
+figure : (c : ℕ) → c < 58 → hexValue c ≡ c - 48
+figure c h = rw (lt-ltb c 58 h)
+
+letter : (c : ℕ) → 58 ≤ c → hexValue c ≡ c - 87
+letter c h = rw (le-ltb c 58 h)
+
+-- a digit's value is the one that it was made of
+digit-value : (n : ℕ) → hexValue (hexDigit n) ≡ n % 16
+digit-value n =
+    pick (λ (c : ℕ). hexValue c ≡ n % 16) (ltb (n % 16) 10)
+    (λ t. let l = ltb-true (n % 16) 10 t in figure (48 + n % 16) (omega arith) ∙ omega arith)
+    (λ t. let l = ltb-false (n % 16) 10 t in letter (87 + n % 16) (omega arith) ∙ omega arith)
+  where
+    pick : (P : ℕ → Type 0) (c : Bool) {a b : ℕ} → (c ≡ true → P a) → (c ≡ false → P b) → P (cond c a b)
+    pick P true f g = f refl
+    pick P false f g = g refl
+
+read-end : (before : ℕ) (cs : List ℕ) (c : ℕ) → readHexOn before (cs ++ (c ∷ [])) ≡ 16 * readHexOn before cs + hexValue c
+read-end before [] c = refl
+read-end before (b ∷ cs) c = read-end (16 * before + hexValue b) cs c
+
+reads-back-in : (width n : ℕ) → n < 16 ^ width → readHexOn 0 (hexIn width n) ≡ n
+unfolding hexIn
+reads-back-in zero n h = omega arith
+reads-back-in (suc width) n h =
+    let shorter = div-lt-iff-lt-mul (lit< tt) .1 (subst (λ (m : ℕ). n < m) (pow-suc 16 width) h) in
+    read-end 0 (hexIn width (n / 16)) (hexDigit n) ∙ omega (arith, digit-value n, reads-back-in width (n / 16) shorter)
+
+pub reads-back : (n : ℕ) → n < 2 ^ 32 → readHexOn 0 (hexWord n) ≡ n
+unfolding hexWord
+reads-back n h = reads-back-in 8 n h
+
+-- ---- how they are made
 
 -- what stands in the array from `first` on, behind the digits still to come
 pub next-digit : (text : List ℕ) (first rest : ℕ)

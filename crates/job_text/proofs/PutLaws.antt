@@ -3,6 +3,7 @@ use mathlib.Core.Path.{_≡_, ap, sym, _∙_}
 use mathlib.Core.List.{List, [], _++_, append-assoc, append-nil}
 use Prim.Native.Nat.{ℕ, _+_, _≤_, _<_}
 use native.Mathlib.Nat.{add-assoc, add-zero}
+use native.Mathlib.Decide.{decLt}
 use native.Mathlib.Omega.{arith}
 use lib.ListN.{length, take, drop, length-append, length-drop, take-append-drop}
 use lib.Seq.{paste, take-length, take-at, drop-at, length-take-le, drop-drop}
@@ -53,6 +54,14 @@ put-put d at t u room =
     ∙ ap (λ (l : List ℕ). l ++ drop (at + length (t ++ u)) d) (append-assoc (take at d) t u)
     ∙ sym (put-room d at (t ++ u) room)
 
+-- nor does one that has none
+length-put : (d : List ℕ) (at : ℕ) (t : List ℕ) → length (put d at t) ≡ length d
+length-put d at t =
+    elim (decLt (length d) (at + length t)) as (λ _. length (put d at t) ≡ length d) [
+      | yes h ↦ ap length (sym (full d at t h .1))
+      | no h ↦ length-room d at t (omega arith)
+    ]
+
 -- the contract, from what the code did
 pub puts : (d : List ℕ) (at : ℕ) (t : List ℕ) (r : ℕ) (e : List ℕ)
     → length d ≡ 65536
@@ -60,12 +69,14 @@ pub puts : (d : List ℕ) (at : ℕ) (t : List ℕ) (r : ℕ) (e : List ℕ)
     → e ≡ put d at t
     → Puts d at t r e
 puts d at t r e size p q =
+    let same = ap length q ∙ length-put d at t in
     record {
       answered = p;
       contents = q;
       stored = λ room. (p ∙ after-room d at t room, q);
       joins = λ u both. join u both;
-      size = size;
+      kept = same;
+      size = same ∙ size;
     }
   where
     join : (u : List ℕ) → at + length (t ++ u) ≤ length d → put e r u ≡ put d at (t ++ u)
@@ -77,7 +88,7 @@ puts d at t r e size p q =
 
 -- the same text by another name
 pub puts-as : (d : List ℕ) (at : ℕ) (t u : List ℕ) (r : ℕ) (e : List ℕ) → t ≡ u → Puts d at t r e → Puts d at u r e
-puts-as d at t u r e q p = puts d at u r e (p .size) (p .answered ∙ ap (after d at) q) (p .contents ∙ ap (put d at) q)
+puts-as d at t u r e q p = puts d at u r e (sym (p .kept) ∙ p .size) (p .answered ∙ ap (after d at) q) (p .contents ∙ ap (put d at) q)
 
 -- t put at `at`, and u at the place that this answered: room is asked of the whole alone
 pub then : (d : List ℕ) (at : ℕ) (t u : List ℕ) {a r : ℕ} {m e : List ℕ}

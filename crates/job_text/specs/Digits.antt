@@ -42,6 +42,15 @@ abbrev pub readOn : ℕ → List ℕ → ℕ
 readOn before [] = before
 readOn before (c ∷ cs) = readOn (10 * before + (c - 48)) cs
 
+-- the value of a hex digit: 0 to 9, then a to f in lower case
+abbrev pub hexValue : ℕ → ℕ
+hexValue c = cond (ltb c 58) (c - 48) (c - 87)
+
+-- the number that hex digits are read as, after what stood before them
+abbrev pub readHexOn : ℕ → List ℕ → ℕ
+readHexOn before [] = before
+readHexOn before (c ∷ cs) = readHexOn (16 * before + hexValue c) cs
+
 pub record DecimalText (n : ℕ) : Type 0 where
   -- read back, the digits give the number
   pub reads-back : n < 10 ^ 20 → readOn 0 (decimal n) ≡ n

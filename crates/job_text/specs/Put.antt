@@ -1,11 +1,11 @@
 -- A text put into a lent buffer.
-use Prim.Native.Nat.{ℕ, _+_, _≤_}
+use Prim.Native.Nat.{ℕ, _+_, _^_, _≤_, _<_}
 use mathlib.Core.Path.{_≡_}
 use mathlib.Core.Bool.{Bool, cond}
 use mathlib.Core.List.{List, _++_}
 use lib.ListN.{length, take, drop}
 use lib.Dec.{leb}
-use Rattle.job_text.specs.Digits.{decimal, hexWord, DecimalText}
+use Rattle.job_text.specs.Digits.{decimal, hexWord, readHexOn, DecimalText}
 
 -- whether text t has room in buffer d from `at` on
 abbrev pub hasRoom : List ℕ → ℕ → List ℕ → Bool
@@ -30,8 +30,10 @@ pub record Puts (d : List ℕ) (at : ℕ) (t : List ℕ) (r : ℕ) (e : List ℕ
   pub stored : Stored d at t r e
   -- another text put right after it makes one text with it, where both have room
   pub joins : (u : List ℕ) → at + length (t ++ u) ≤ length d → put e r u ≡ put d at (t ++ u)
-  -- the buffer's length, which a caller learns here
-  pub size : length d ≡ 65536
+  -- stored or not, a text changes no length
+  pub kept : length e ≡ length d
+  -- which is the array's: a caller that only hands the buffer on learns it nowhere else
+  pub size : length e ≡ 65536
 
 pub record PutsDecimal (d : List ℕ) (at n r : ℕ) (e : List ℕ) : Type 0 where
   pub puts : Puts d at (decimal n) r e
@@ -40,3 +42,5 @@ pub record PutsDecimal (d : List ℕ) (at n r : ℕ) (e : List ℕ) : Type 0 whe
 pub record PutsHex (d : List ℕ) (at n r : ℕ) (e : List ℕ) : Type 0 where
   pub puts : Puts d at (hexWord n) r e
   pub eight : length (hexWord n) ≡ 8
+  -- read back, the digits give the word
+  pub reads-back : n < 2 ^ 32 → readHexOn 0 (hexWord n) ≡ n

@@ -7,7 +7,7 @@ use borrow.Author.Needs.{needs}
 use lib.ListN.{length, drop, set, length-set}
 use Rattle.job_text.specs.Digits.{hexIn, hexWord}
 use Rattle.job_text.proofs.PutLaws.{puts-as}
-use Rattle.job_text.proofs.HexLaws.{next-digit, end, eight}
+use Rattle.job_text.proofs.HexLaws.{next-digit, end, eight, reads-back}
 use Rattle.job_text.proofs.hex.put_hex.Statement.{statement}
 use Rattle.job_text.proofs.hex.put_hex.Tie as tie
 
@@ -43,6 +43,7 @@ returns c =
     record {
       puts = puts-as (a .out .now) (a .at) (l .text) (hexWord (a .n)) (call .result) (call .last .0) word (call .ensures);
       eight = eight (a .n);
+      reads-back = reads-back (a .n);
     }
 
 pub put-hex-spec : {M : Type 1} → statement M
