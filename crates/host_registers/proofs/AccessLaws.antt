@@ -1,7 +1,7 @@
 -- What an access keeps, which number it has, and what an abort comes to. Assumes nothing.
 use Prim.Native.Nat.{ℕ, _^_, _<_}
 use native.Mathlib.Omega.{arith}
-use mathlib.Core.Path.{_≡_, refl, sym, subst}
+use mathlib.Core.Path.{_≡_, refl, sym, ap, subst, _∙_}
 use mathlib.Core.Bool.{Bool, true, false, cond, not, _&&_, _||_}
 use Rattle.families.specs.Family.{knownFamily}
 use Rattle.isa.proofs.Tests.{cond-elim}
@@ -15,11 +15,14 @@ use Rattle.host_registers.specs.Access.{freshOf, afterWrite, isAbort, is
 use Rattle.host_registers.specs.Code.{afterUpload}
 use Rattle.machine_execution.specs.Execution.{someSlotExecutes}
 use Rattle.host_registers.specs.Promises.{outcomeNumber, readingNumber, freshRefusal, writeRefusal, isReadable, readRefusal, keptBits}
-use Rattle.host_registers.specs.Promises.{Unmoved, Spares, Stops, Begins, WritesInPlace, HostWrites, HostReads}
-use Rattle.host_registers.specs.Register.{triggerAt, registerAt, isWritable}
-use Rattle.host_registers.specs.Trigger.{isStart, slotNamed, aborted, afterTrigger}
+use Rattle.host_registers.specs.Promises.{Unmoved, TakenTrigger, Spares, Stops, Begins, WritesInPlace, HostWrites, HostReads}
+use Rattle.host_registers.specs.Register.{statusAt, triggerAt, registerAt, isWritable}
+use Rattle.host_registers.specs.Status.{statusWord}
+use Rattle.host_registers.specs.Trigger.{isStart, slotNamed, aborted, afterTrigger, Triggers}
 use Rattle.host_registers.proofs.BackLaws.{Roomy, word-back}
 use Rattle.host_registers.proofs.RegisterLaws.{register-in-room}
+use Rattle.host_registers.proofs.StatusBits.{status-shown}
+use Rattle.host_registers.proofs.TriggerBits.{triggers}
 use Rattle.host_registers.specs.declared.access.Access.{Access}
 use Rattle.host_registers.specs.declared.access.Outcome.{Outcome}
 use Rattle.host_registers.specs.declared.access.ReadAnswer.{ReadAnswer}
@@ -38,6 +41,10 @@ begins family e = record { answered = e; numbered = subst P (sym e) number }
 split : {A : Type 0} (b : Bool) → (b ≡ true → A) → (b ≡ false → A) → A
 split true f g = f refl
 split false f g = g refl
+
+-- a refused access is not done
+undone : {A : Type 0} {why : Inaccessible} → Outcome.Refused why ≡ Outcome.Done → A
+undone e = let z : _≡_ {A = ℕ} 0 1 = cc in absurd (omega arith)
 
 -- taken where no slot executes or the write is an abort, and otherwise 28
 taken-free : (abort executing : Bool) → (abort || not executing) ≡ true → (executing && not abort) ≡ false
@@ -164,6 +171,10 @@ module _ (s : State) (address : MmioAddress) (word : ℕ) where
   unfolding registerAt
   trigger-here h = simp h
 
+  status-here : address .0 ≡ statusAt → register ≡ Register.Status
+  unfolding registerAt
+  status-here h = simp h
+
   events-here : address .0 ≡ 0x001578 → register ≡ Register.Events
   unfolding registerAt
   events-here h = simp h
@@ -173,6 +184,18 @@ module _ (s : State) (address : MmioAddress) (word : ℕ) where
   write-stops u h z =
       let name = slotNamed (s .family) word in
       simp (u, trigger-here h, h, z) (record { taken = refl; idle = stopped-mode s name; ip = stopped-ip s name; still = stopped-still s name })
+
+  write-triggers : TakenTrigger s address word (writeOf s address word)
+  unfolding writeOf
+  write-triggers h =
+      cond-elim Taken (knownFamily (s .family))
+      (λ u. cond-elim Taken (isWritable register)
+      (λ v. cond-elim Taken (isTaken s address word) (λ w d. rw (trigger-here h) (triggers s word)) (λ w d. undone d))
+      (λ v d. undone d))
+      (λ u d. undone d)
+    where
+      Taken : Access → Type 0
+      Taken t = t .outcome ≡ Outcome.Done → Triggers s word (t .state)
 
   write-back : Roomy s → word < 2 ^ 32 → writeOf s address word .outcome ≡ Outcome.Done → isReadable register ≡ true
       → readOf (writeOf s address word .state) address ≡ ReadAnswer.Word (keptBits register word)
@@ -189,15 +212,14 @@ module _ (s : State) (address : MmioAddress) (word : ℕ) where
       Back : Access → Type 0
       Back t = t .outcome ≡ Outcome.Done → isReadable register ≡ true → readOf (t .state) address ≡ ReadAnswer.Word (keptBits register word)
 
-      undone : {A : Type 0} {why : Inaccessible} → Outcome.Refused why ≡ Outcome.Done → A
-      undone e = let z : _≡_ {A = ℕ} 0 1 = cc in absurd (omega arith)
-
   write-events : knownFamily (s .family) ≡ true → address .0 ≡ 0x001578 → outcomeNumber (writeOf s address word .outcome) ≡ 27
   unfolding writeOf
   write-events u h = simp (u, events-here h)
 
   pub in-place : {t : Access} → t ≡ writeOf s address word → WritesInPlace s address word t
-  in-place e = let law = subst Law (sym e) write-law in record { answered = e; numbered = law .numbered; unmoved = law .unmoved }
+  in-place e =
+      let law = subst Law (sym e) write-law in
+      record { answered = e; numbered = law .numbered; unmoved = law .unmoved; triggers = subst (TakenTrigger s address word) (sym e) write-triggers }
 
   pub host-writes : Roomy s → word < 2 ^ 32 → {t : Access} → t ≡ writeOf s address word → HostWrites s address word t
   host-writes roomy small e =
@@ -206,6 +228,7 @@ module _ (s : State) (address : MmioAddress) (word : ℕ) where
         answered = e;
         numbered = law .numbered;
         unmoved = law .unmoved;
+        triggers = subst (TakenTrigger s address word) (sym e) write-triggers;
         spares = law .spares;
         stops = λ u h z. subst (Stops s (slotNamed (s .family) word)) (sym e) (write-stops u h z);
         reads-back = rw e (write-back roomy small);
@@ -240,6 +263,7 @@ module _ (s : State) (address : MmioAddress) where
   host-reads e = record {
     answered = e;
     numbered = subst Numbered (sym e) read-number;
+    status = λ u h. (statusWord s, e ∙ read-as u ∙ ap (readingOf s) (status-here s address 0 h), status-shown s);
     trigger = λ u h. subst (λ (t : ReadAnswer). readingNumber t ≡ 27) (sym e) (rw (read-as u, trigger-here s address 0 h));
     events = λ u h. subst (λ (t : ReadAnswer). readingNumber t ≡ 27) (sym e) (rw (read-as u, events-here s address 0 h));
   }

@@ -1,3 +1,5 @@
+pub mod TriggerBits
+pub mod StatusBits
 pub mod RegisterLaws
 pub mod AccessLaws
 pub mod BackLaws

@@ -12,8 +12,9 @@ use Rattle.host_registers.specs.Access.{freshOf, writeOf, readOf, isAbor
 use Rattle.refusals.specs.Number.{inaccessibleNumber}
 use Rattle.host_registers.specs.Entry.{entryBits}
 use Rattle.machine_execution.specs.Execution.{someSlotExecutes}
-use Rattle.host_registers.specs.Register.{triggerAt, registerAt, isWritable}
-use Rattle.host_registers.specs.Trigger.{isStart, slotNamed}
+use Rattle.host_registers.specs.Register.{statusAt, triggerAt, registerAt, isWritable}
+use Rattle.host_registers.specs.Status.{ShowsStatus}
+use Rattle.host_registers.specs.Trigger.{isStart, slotNamed, Triggers}
 use Rattle.host_registers.specs.declared.access.Access.{Access}
 use Rattle.host_registers.specs.declared.access.Outcome.{Outcome}
 use Rattle.host_registers.specs.declared.access.ReadAnswer.{ReadAnswer}
@@ -94,16 +95,22 @@ pub record Begins (family : ℕ) (answer : Access) : Type 0 where
   pub answered : answer ≡ freshOf family
   pub numbered : outcomeNumber (answer .outcome) ≡ freshRefusal family
 
+-- what a word does that TRIGGER takes
+abbrev pub TakenTrigger : State → MmioAddress → ℕ → Access → Type 0
+TakenTrigger s address word answer = address .0 ≡ triggerAt → answer .outcome ≡ Outcome.Done → Triggers s word (answer .state)
+
 -- a write whose code is stored in place
 pub record WritesInPlace (s : State) (address : MmioAddress) (word : ℕ) (answer : Access) : Type 0 where
   pub answered : answer ≡ writeOf s address word
   pub numbered : outcomeNumber (answer .outcome) ≡ writeRefusal s address word
   pub unmoved : Unmoved s (answer .state) (answer .outcome)
+  pub triggers : TakenTrigger s address word answer
 
 pub record HostWrites (s : State) (address : MmioAddress) (word : ℕ) (answer : Access) : Type 0 where
   pub answered : answer ≡ writeOf s address word
   pub numbered : outcomeNumber (answer .outcome) ≡ writeRefusal s address word
   pub unmoved : Unmoved s (answer .state) (answer .outcome)
+  pub triggers : TakenTrigger s address word answer
   pub spares : Spares s (answer .state)
   pub stops : knownFamily (s .family) ≡ true → address .0 ≡ triggerAt → isStart word ≡ false → Stops s (slotNamed (s .family) word) answer
   -- what was written reads back
@@ -115,6 +122,8 @@ pub record HostWrites (s : State) (address : MmioAddress) (word : ℕ) (answer :
 pub record HostReads (s : State) (address : MmioAddress) (answer : ReadAnswer) : Type 0 where
   pub answered : answer ≡ readOf s address
   pub numbered : readingNumber answer ≡ readRefusal s address
+  -- STATUS reads as a word that shows both slots
+  pub status : knownFamily (s .family) ≡ true → address .0 ≡ statusAt → (word : ℕ) × (answer ≡ ReadAnswer.Word word) × ShowsStatus s word
   -- TRIGGER and EVENTS are not readable
   pub trigger : knownFamily (s .family) ≡ true → address .0 ≡ triggerAt → readingNumber answer ≡ 27
   pub events : knownFamily (s .family) ≡ true → address .0 ≡ 0x001578 → readingNumber answer ≡ 27

@@ -6,7 +6,10 @@ use Rattle.families.specs.Family.{codeSize, within, maxCode}
 use Rattle.isa.specs.declared.addresses.MmioAddress.{MmioAddress}
 use Rattle.host_registers.specs.declared.registers.Register.{Register}
 
--- the address of TRIGGER
+-- the addresses of STATUS and TRIGGER
+abbrev pub statusAt : ℕ
+statusAt = 0x001308
+
 abbrev pub triggerAt : ℕ
 triggerAt = 0x00130c
 
@@ -38,7 +41,7 @@ registerAt family address =
     let at = address .0 in
     cond (eqb at 0x001098) Register.Control
     (cond (eqb at 0x001304) Register.EntryPoint
-    (cond (eqb at 0x001308) Register.Status
+    (cond (eqb at statusAt) Register.Status
     (cond (eqb at triggerAt) Register.Trigger
     (cond (eqb at 0x001310) Register.Flags0
     (cond (eqb at 0x001314) Register.Flags1

@@ -1,8 +1,11 @@
 -- The register STATUS (01, "Host registers"; 004, "Script execution").
-use Prim.Native.Nat.{ℕ, _+_, _*_, _/_, _%_}
+use Prim.Native.Nat.{ℕ, _+_, _*_, _/_, _%_, _^_, _<_}
+use mathlib.Core.Path.{_≡_}
+use mathlib.Core.Logic.{_↔_, _⊎_}
 use mathlib.Core.Bool.{Bool, true, false, cond, not, _&&_}
 use lib.Dec.{eqb}
 use Rattle.families.specs.Family.{unknownHangs}
+use Rattle.machine_flags.specs.Flags.{bitOf}
 use Rattle.machine_state.specs.Slot.{hasSlot, isIdle}
 use Rattle.machine_state.specs.declared.slots.Mode.{Mode}
 use Rattle.machine_state.specs.declared.slots.Slot.{Slot}
@@ -40,3 +43,20 @@ statusWord s =
     cond (hasSlot (s .family) SlotName.B)
     (slotStatus (s .family) (s .a) + 65536 * slotStatus (s .family) (s .b))
     (slotStatus (s .family) (s .a))
+
+-- ---- what is promised of it, bit by bit
+
+-- a half of STATUS shows this slot: each bit by its number
+pub record ShowsSlot (family : ℕ) (slot : Slot) (half : ℕ) : Type 0 where
+  pub low-ip : half % 2 ^ 8 ≡ slot .ip .0 % 2 ^ 8
+  pub executing : (bitOf half 8 ≡ 1) ↔ (slot .mode ≡ Mode.Idle → ⊥)
+  pub hung : (bitOf half 9 ≡ 1) ↔ ((family ≡ 2) ⊎ (family ≡ 3)) × (slot .mode ≡ Mode.Hung)
+  pub ip-bit-8 : (bitOf half 10 ≡ 1) ↔ (family ≡ 4) × (bitOf (slot .ip .0) 8 ≡ 1)
+  -- bits without meaning read 0
+  pub no-more : half < 2 ^ 11
+
+-- bits 0 to 15 are slot A's, 16 to 31 slot B's, and 0 where the family has none
+pub record ShowsStatus (s : State) (word : ℕ) : Type 0 where
+  pub slot-a : ShowsSlot (s .family) (s .a) (word % 2 ^ 16)
+  pub slot-b : hasSlot (s .family) SlotName.B ≡ true → ShowsSlot (s .family) (s .b) (word / 2 ^ 16)
+  pub one-slot : hasSlot (s .family) SlotName.B ≡ false → word / 2 ^ 16 ≡ 0

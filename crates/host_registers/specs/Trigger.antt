@@ -1,7 +1,10 @@
 -- Starting and aborting (01, "Host registers"; 004, "Script execution").
-use Prim.Native.Nat.{ℕ, _/_, _%_}
-use mathlib.Core.Bool.{Bool, cond, _&&_}
+use Prim.Native.Nat.{ℕ, _+_, _*_, _/_, _%_}
+use mathlib.Core.Path.{_≡_}
+use mathlib.Core.Logic.{_⊎_}
+use mathlib.Core.Bool.{Bool, true, false, cond, _&&_}
 use lib.Dec.{eqb}
+use Rattle.machine_flags.specs.Flags.{bitOf}
 use Rattle.machine_state.specs.Slot.{hasSlot, slotOf, withSlot}
 use Rattle.machine_state.specs.declared.slots.Mode.{Mode}
 use Rattle.machine_state.specs.declared.slots.Slot.{Slot}
@@ -33,3 +36,16 @@ afterTrigger s word =
     cond (isStart word)
     (withSlot s name (startedAt slot (entryPoint (s .family) (s .entries) (s .«entries_high») (word / 4 % 4))) (s .flags))
     (withSlot s name (aborted slot) (s .flags))
+
+-- ---- what is promised of it, bit by bit
+
+-- the slot that a word means, before and after: bit 0 starts it at the entry point that bits 2 and 3 choose, and clear stops it where it is
+pub record TriggersSlot (s : State) (word : ℕ) (old new : Slot) : Type 0 where
+  pub start : bitOf word 0 ≡ 1
+      → (new .mode ≡ Mode.Running) × (new .ip .0 ≡ entryPoint (s .family) (s .entries) (s .«entries_high») (bitOf word 2 + 2 * bitOf word 3))
+  pub abort : bitOf word 0 ≡ 0 → (new .mode ≡ Mode.Idle) × (new .ip ≡ old .ip)
+
+-- bit 1 set means slot A, clear slot B; where the family has one slot it means A in any case. The other slot stays as it is
+pub record Triggers (s : State) (word : ℕ) (t : State) : Type 0 where
+  pub slot-a : (hasSlot (s .family) SlotName.B ≡ false) ⊎ (bitOf word 1 ≡ 1) → TriggersSlot s word (s .a) (t .a) × (t .b ≡ s .b)
+  pub slot-b : hasSlot (s .family) SlotName.B ≡ true → bitOf word 1 ≡ 0 → TriggersSlot s word (s .b) (t .b) × (t .a ≡ s .a)
