@@ -1,5 +1,5 @@
 -- The run of a slot to its end, and replay (01, "Other refusals" and "Demand 3's words"): one step more than the code RAM has bytes.
-use Prim.Native.Nat.{ℕ, suc, _+_, _*_}
+use Prim.Native.Nat.{ℕ, suc, _+_, _*_, _≤_}
 use mathlib.Core.Path.{_≡_}
 use mathlib.Core.Bool.{true, cond, not}
 use mathlib.Core.List.{List, [], _∷_, _++_, IsPrefix}
@@ -94,7 +94,11 @@ abbrev pub answerNumber : ReplayAnswer → ℕ
 answerNumber (ReplayAnswer.Ended told) = 0
 answerNumber (ReplayAnswer.Refused why) = unreplayableNumber why
 
--- the entries that must be lent: two for each of the 170 writes that a script can make at most
+-- the writes that a script can make at most: each takes three bytes of a code RAM of 512, and IP never goes back
+abbrev pub maxWrites : ℕ
+maxWrites = 170
+
+-- the entries that must be lent, two for each of them
 abbrev pub maxEntries : ℕ
 maxEntries = 340
 
@@ -144,12 +148,18 @@ module _ (x : Scene) (slot : Slot) (flags : Flags) where
   IsHeld = scriptFits (slotScript x slot) ≡ true
       → (s : State) × (length (s .code) ≡ maxCode) × (length (s .marks) ≡ maxCode) × (Holds x slot flags SlotName.A s)
 
+  -- at most 170 writes, however many steps a script takes
+  abbrev pub FewWrites : Type 0
+  FewWrites = scriptFits (slotScript x slot) ≡ true → (n : ℕ) → length (slotRunFor x n (slotBegun slot flags) .writes) ≤ maxWrites
+
   -- what holds of a run that ended, in every state that holds the slot, and of the lent entries, old and new
   pub record RunEnds (old new : List ℕ) (last : Progress) : Type 0 where
     -- it came as far as the machine's steps come
     pub came : (name : SlotName) (s : State) → Holds x slot flags name s → last ≡ progressOf (slotRunOf name (fullRun name (x .log) s))
     -- and wrote what they write
     pub wrote : (name : SlotName) (s : State) → Holds x slot flags name s → new ≡ writtenInto old (fullRun name (x .log) s .writes)
+    -- at most 170 writes
+    pub few : last .writes ≤ maxWrites
     -- a slot that still runs at the end is one that the next step stops
     pub stops : last .slot .mode ≡ Mode.Running
         → (why : Unreadable)
@@ -173,8 +183,14 @@ module _ (x : Scene) (slot : Slot) (flags : Flags) where
     pub ends : EndsRight old new answer
     pub follows : FollowsSteps
     pub held : IsHeld
+    pub few : FewWrites
     -- more log on worked scripts: of the definitions, and so of every run
     pub pairs : Pairs
+
+-- at most 170 writes are told
+abbrev pub TellsFew : ReplayAnswer → Type 0
+TellsFew (ReplayAnswer.Ended told) = told .writes ≤ maxWrites
+TellsFew (ReplayAnswer.Refused why) = Unit {0}
 
 -- ---- replay: what is told of the run of a script from its entry, with the registers that were given
 
@@ -197,6 +213,7 @@ module _ (script : Script) (registers : Registers) (log : Log) where
   pub record Replays (old new : List ℕ) (answer : ReplayAnswer) : Type 0 where
     pub answered : answer ≡ replayOf (length old)
     pub numbered : answerNumber answer ≡ replayRefusal (length old)
+    pub few : TellsFew answer
     pub ran : RunAnswer
     pub tells : answer ≡ toldAnswer (log .clocks) ran
     pub runs : RunsSlot replayScene (slotGiven script registers) (flagsGiven registers) old new ran

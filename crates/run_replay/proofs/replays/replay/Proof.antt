@@ -10,10 +10,10 @@ use Rattle.machine_flags.specs.declared.flags.Flags.{Flags}
 use Rattle.machine_state.specs.declared.slots.Slot.{Slot}
 use Rattle.script.specs.Script.{Script, scriptOf}
 use Rattle.run.specs.Registers.{Registers, registersOf, slotGiven, flagsGiven}
-use Rattle.run.specs.Replay.{toldAnswer, answerNumber, RunsSlot, replayScene, Replays}
+use Rattle.run.specs.Replay.{toldAnswer, answerNumber, RunsSlot, TellsFew, replayScene, Replays}
 use Rattle.run.specs.declared.answers.ReplayAnswer.{ReplayAnswer}
 use Rattle.run.specs.declared.answers.RunAnswer.{RunAnswer}
-use Rattle.run.proofs.ReplayEnds.{told-number, ended-valid}
+use Rattle.run.proofs.ReplayEnds.{told-number, ended-valid, tells-few}
 use Rattle.run_replay.proofs.replays.replay.Statement.{statement}
 use Rattle.run_replay.proofs.replays.replay.Tie as tie
 
@@ -24,6 +24,8 @@ replays : (x : Script) (registers : Registers) (log : Log) (old new : List ℕ) 
 replays x registers log old new ran answer runs told = record {
   answered = told ∙ ap (toldAnswer (log .clocks)) (runs .answered);
   numbered = ap answerNumber told ∙ told-number (log .clocks) ran ∙ runs .numbered;
+  few = subst TellsFew (sym told)
+      (tells-few (replayScene x registers log) (slotGiven x registers) (flagsGiven registers) old new (log .clocks) ran (runs .ends));
   ran = ran;
   tells = told;
   runs = runs;
