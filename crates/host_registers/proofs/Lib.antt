@@ -1,6 +1,6 @@
+pub mod RegisterLaws
 pub mod TriggerBits
 pub mod StatusBits
-pub mod RegisterLaws
 pub mod AccessLaws
 pub mod BackLaws
 pub mod HostMade

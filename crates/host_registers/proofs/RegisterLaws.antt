@@ -1,13 +1,15 @@
--- Where registers stand, from facts on numbers. Assumes nothing.
-use Prim.Native.Nat.{ℕ, _-_, _%_, _≤_}
-use mathlib.Core.Path.{_≡_}
-use mathlib.Core.Bool.{_&&_}
+-- Where registers stand, from facts on numbers, and which families have a slot B. Assumes nothing.
+use Prim.Native.Nat.{ℕ, zero, suc, _-_, _%_, _≤_}
+use mathlib.Core.Path.{_≡_, refl}
+use mathlib.Core.Bool.{true, false, _&&_}
 use native.Mathlib.Omega.{arith}
 use lib.Dec.{ltb, eqb}
 use borrow.Author.Tests.{ltb-true, eqb-true}
 use Rattle.families.specs.Family.{byFamily, codeSize, within}
 use Rattle.isa.proofs.Tests.{cond-elim, inside, outside, both-left, both-right}
 use Rattle.isa.specs.declared.addresses.MmioAddress.{MmioAddress}
+use Rattle.machine_state.specs.Slot.{hasSlot}
+use Rattle.machine_state.specs.declared.slots.SlotName.{SlotName}
 use Rattle.host_registers.specs.Register.{isHigh, highWindow, codeIn, codeAt, registerAt, InRoom}
 use Rattle.host_registers.specs.declared.registers.Register.{Register}
 
@@ -23,6 +25,22 @@ module _ (family at : ℕ) where
   pub in-neither : (0x001400 ≤ at → at ≤ 0x0014ff → ⊥) → (0x080000 ≤ at → at ≤ 0x0801ff → ⊥) → Register.Unlisted ≡ codeAt family at
   unfolding codeAt
   in-neither h k = simp (outside 0x001400 at 0x0014ff h, outside 0x080000 at 0x0801ff k)
+
+-- ---- which families have a slot B
+
+pub one-slot : (family : ℕ) → family ≡ 4 → hasSlot family SlotName.B ≡ false
+unfolding byFamily
+one-slot family e = rw e refl
+
+pub two-slots : (family : ℕ) → 1 ≤ family → family ≤ 3 → hasSlot family SlotName.B ≡ true
+unfolding byFamily
+two-slots zero l h = absurd (let z : ⊥ = omega arith in z)
+two-slots (suc zero) l h = refl
+two-slots (suc (suc zero)) l h = refl
+two-slots (suc (suc (suc zero))) l h = refl
+two-slots (suc (suc (suc (suc n)))) l h = absurd (let z : ⊥ = omega arith in z)
+
+-- ---- code registers have room
 
 size-fits : (family : ℕ) → codeSize family ≤ 512
 unfolding byFamily

@@ -14,6 +14,7 @@ use Rattle.machine_state.specs.declared.slots.Mode.{Mode}
 use Rattle.machine_state.specs.declared.slots.Slot.{Slot}
 use Rattle.machine_state.specs.declared.slots.SlotName.{SlotName}
 use Rattle.machine_state.specs.declared.state.State.{State}
+use Rattle.host_registers.proofs.RegisterLaws.{one-slot, two-slots}
 use Rattle.host_registers.specs.Register.{isHigh}
 use Rattle.host_registers.specs.Status.{bitIf, isHung, showsHang, showsBit8, slotStatus, statusWord, ShowsSlot, ShowsStatus}
 
@@ -149,8 +150,8 @@ module _ (s : State) where
   pub status-shown : ShowsStatus s (statusWord s)
   status-shown = record {
     slot-a = rw low-half (slot-shown (s .family) (s .a));
-    slot-b = λ h.
-        let high : statusWord s / 2 ^ 16 ≡ b = omega (arith, with-b h, small (s .a), small (s .b)) in
+    slot-b = λ l k.
+        let high : statusWord s / 2 ^ 16 ≡ b = omega (arith, with-b (two-slots (s .family) l k), small (s .a), small (s .b)) in
         rw high (slot-shown (s .family) (s .b));
-    one-slot = λ h. omega (arith, without-b h, small (s .a));
+    one-slot = λ e. omega (arith, without-b (one-slot (s .family) e), small (s .a));
   }

@@ -1,5 +1,5 @@
 -- TRIGGER, bit by bit. Assumes nothing.
-use Prim.Native.Nat.{ℕ, _+_, _*_, _/_, _%_}
+use Prim.Native.Nat.{ℕ, _+_, _*_, _/_, _%_, _≤_}
 use mathlib.Core.Path.{_≡_, refl, ap}
 use mathlib.Core.Logic.{_⊎_, inl, inr}
 use mathlib.Core.Bool.{Bool, true, false, cond, _&&_}
@@ -11,6 +11,7 @@ use Rattle.machine_state.specs.declared.slots.Slot.{Slot}
 use Rattle.machine_state.specs.declared.slots.SlotName.{SlotName}
 use Rattle.machine_state.specs.declared.state.State.{State}
 use Rattle.host_registers.specs.Entry.{entryPoint}
+use Rattle.host_registers.proofs.RegisterLaws.{one-slot, two-slots}
 use Rattle.host_registers.specs.Trigger.{isStart, slotNamed, startedAt, aborted, afterTrigger, TriggersSlot, Triggers}
 
 module _ (s : State) (word : ℕ) where
@@ -41,8 +42,8 @@ module _ (s : State) (word : ℕ) where
       chosen true x y = refl
       chosen false x y = refl
 
-  names-a : (hasSlot (s .family) SlotName.B ≡ false) ⊎ (bitOf word 1 ≡ 1) → slotNamed (s .family) word ≡ SlotName.A
-  names-a (inl one) = simp one
+  names-a : (s .family ≡ 4) ⊎ (bitOf word 1 ≡ 1) → slotNamed (s .family) word ≡ SlotName.A
+  names-a (inl four) = simp (one-slot (s .family) four)
   names-a (inr h) =
       let bit : word / 2 % 2 ≡ 1 = h in
       simp (bit, neither (hasSlot (s .family) SlotName.B))
@@ -51,11 +52,11 @@ module _ (s : State) (word : ℕ) where
       neither true = refl
       neither false = refl
 
-  names-b : hasSlot (s .family) SlotName.B ≡ true → bitOf word 1 ≡ 0 → slotNamed (s .family) word ≡ SlotName.B
-  names-b two h = let bit : word / 2 % 2 ≡ 0 = h in simp (two, bit)
+  names-b : 1 ≤ s .family → s .family ≤ 3 → bitOf word 1 ≡ 0 → slotNamed (s .family) word ≡ SlotName.B
+  names-b l k h = let bit : word / 2 % 2 ≡ 0 = h in simp (two-slots (s .family) l k, bit)
 
   pub triggers : Triggers s word (afterTrigger s word)
   triggers = record {
     slot-a = λ h. rw (in-name SlotName.A (names-a h)) (slot-moved (s .a), refl);
-    slot-b = λ two h. rw (in-name SlotName.B (names-b two h)) (slot-moved (s .b), refl);
+    slot-b = λ l k h. rw (in-name SlotName.B (names-b l k h)) (slot-moved (s .b), refl);
   }

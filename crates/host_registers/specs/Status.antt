@@ -1,5 +1,5 @@
 -- The register STATUS (01, "Host registers"; 004, "Script execution").
-use Prim.Native.Nat.{ℕ, _+_, _*_, _/_, _%_, _^_, _<_}
+use Prim.Native.Nat.{ℕ, _+_, _*_, _/_, _%_, _^_, _≤_, _<_}
 use mathlib.Core.Path.{_≡_}
 use mathlib.Core.Logic.{_↔_, _⊎_}
 use mathlib.Core.Bool.{Bool, true, false, cond, not, _&&_}
@@ -55,8 +55,8 @@ pub record ShowsSlot (family : ℕ) (slot : Slot) (half : ℕ) : Type 0 where
   -- bits without meaning read 0
   pub no-more : half < 2 ^ 11
 
--- bits 0 to 15 are slot A's, 16 to 31 slot B's, and 0 where the family has none
+-- bits 0 to 15 are slot A's; bits 16 to 31 slot B's on families 1 to 3, and 0 on family 4
 pub record ShowsStatus (s : State) (word : ℕ) : Type 0 where
   pub slot-a : ShowsSlot (s .family) (s .a) (word % 2 ^ 16)
-  pub slot-b : hasSlot (s .family) SlotName.B ≡ true → ShowsSlot (s .family) (s .b) (word / 2 ^ 16)
-  pub one-slot : hasSlot (s .family) SlotName.B ≡ false → word / 2 ^ 16 ≡ 0
+  pub slot-b : 1 ≤ s .family → s .family ≤ 3 → ShowsSlot (s .family) (s .b) (word / 2 ^ 16)
+  pub one-slot : s .family ≡ 4 → word / 2 ^ 16 ≡ 0

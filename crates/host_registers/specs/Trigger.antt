@@ -1,8 +1,8 @@
 -- Starting and aborting (01, "Host registers"; 004, "Script execution").
-use Prim.Native.Nat.{ℕ, _+_, _*_, _/_, _%_}
+use Prim.Native.Nat.{ℕ, _+_, _*_, _/_, _%_, _≤_}
 use mathlib.Core.Path.{_≡_}
 use mathlib.Core.Logic.{_⊎_}
-use mathlib.Core.Bool.{Bool, true, false, cond, _&&_}
+use mathlib.Core.Bool.{Bool, cond, _&&_}
 use lib.Dec.{eqb}
 use Rattle.machine_flags.specs.Flags.{bitOf}
 use Rattle.machine_state.specs.Slot.{hasSlot, slotOf, withSlot}
@@ -45,7 +45,7 @@ pub record TriggersSlot (s : State) (word : ℕ) (old new : Slot) : Type 0 where
       → (new .mode ≡ Mode.Running) × (new .ip .0 ≡ entryPoint (s .family) (s .entries) (s .«entries_high») (bitOf word 2 + 2 * bitOf word 3))
   pub abort : bitOf word 0 ≡ 0 → (new .mode ≡ Mode.Idle) × (new .ip ≡ old .ip)
 
--- bit 1 set means slot A, clear slot B; where the family has one slot it means A in any case. The other slot stays as it is
+-- bit 1 set means slot A, clear slot B on families 1 to 3; family 4 has slot A alone, whatever the bit. The other slot stays as it is
 pub record Triggers (s : State) (word : ℕ) (t : State) : Type 0 where
-  pub slot-a : (hasSlot (s .family) SlotName.B ≡ false) ⊎ (bitOf word 1 ≡ 1) → TriggersSlot s word (s .a) (t .a) × (t .b ≡ s .b)
-  pub slot-b : hasSlot (s .family) SlotName.B ≡ true → bitOf word 1 ≡ 0 → TriggersSlot s word (s .b) (t .b) × (t .a ≡ s .a)
+  pub slot-a : (s .family ≡ 4) ⊎ (bitOf word 1 ≡ 1) → TriggersSlot s word (s .a) (t .a) × (t .b ≡ s .b)
+  pub slot-b : 1 ≤ s .family → s .family ≤ 3 → bitOf word 1 ≡ 0 → TriggersSlot s word (s .b) (t .b) × (t .a ≡ s .a)
