@@ -84,8 +84,27 @@ flagsWord0 flags = flags .values % 65536 + 65536 * (flags .enables % 65536)
 abbrev pub flagsWord1 : Flags → ℕ
 flagsWord1 flags = flags .values / 65536 + 65536 * (flags .enables / 65536)
 
+-- a word shows sixteen flags, those from `first` on: bit n the value of the nth of them, bit 16 + n its enable
+pub record ShowsFlags (first : ℕ) (flags : Flags) (word : ℕ) : Type 0 where
+  pub values : (n : ℕ) → n < 16 → bitOf word n ≡ bitOf (flags .values) (first + n)
+  pub enables : (n : ℕ) → n < 16 → bitOf word (16 + n) ≡ bitOf (flags .enables) (first + n)
+
+pub record TellsWord0 (flags : Flags) (word : ℕ) : Type 0 where
+  pub answered : word ≡ flagsWord0 flags
+  pub shows : ShowsFlags 0 flags word
+
+pub record TellsWord1 (flags : Flags) (word : ℕ) : Type 0 where
+  pub answered : word ≡ flagsWord1 flags
+  pub shows : ShowsFlags 16 flags word
+
 abbrev pub flagsFromWords : ℕ → ℕ → Flags
 flagsFromWords word0 word1 = record {
   values = word0 % 65536 + 65536 * (word1 % 65536);
   enables = word0 / 65536 + 65536 * (word1 / 65536);
 }
+
+-- the flags that two words make are shown by them
+pub record MadeOf (word0 word1 : ℕ) (flags : Flags) : Type 0 where
+  pub answered : flags ≡ flagsFromWords word0 word1
+  pub shows0 : ShowsFlags 0 flags word0
+  pub shows1 : ShowsFlags 16 flags word1

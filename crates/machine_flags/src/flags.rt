@@ -1,6 +1,6 @@
 // The 32 flags: bit f of a word for flag f.
 ghost use mathlib.Core.Path.{_≡_};
-ghost use Rattle.machine_flags.specs.Flags.{ChangesFlags, pausedOf, flagsWord0, flagsWord1, flagsFromWords};
+ghost use Rattle.machine_flags.specs.Flags.{ChangesFlags, pausedOf, TellsWord0, TellsWord1, MadeOf};
 
 // What an instruction does to a flag.
 pub enum Change {
@@ -56,19 +56,19 @@ pub fn memory_paused(family: u8, flags: Flags) -> bool
 
 // The registers FLAGS_0 and FLAGS_1.
 pub fn flags_word_0(flags: Flags) -> u32
-    ensures { λ r. ⌜ r ≡ flagsWord0 flags ⌝ }
+    ensures { λ r. ⌜ TellsWord0 flags r ⌝ }
 {
     flags.values % 65536 + 65536 * (flags.enables % 65536)
 }
 
 pub fn flags_word_1(flags: Flags) -> u32
-    ensures { λ r. ⌜ r ≡ flagsWord1 flags ⌝ }
+    ensures { λ r. ⌜ TellsWord1 flags r ⌝ }
 {
     flags.values / 65536 + 65536 * (flags.enables / 65536)
 }
 
 pub fn flags_from_words(word_0: u32, word_1: u32) -> Flags
-    ensures { λ r. ⌜ r ≡ flagsFromWords «word_0» «word_1» ⌝ }
+    ensures { λ r. ⌜ MadeOf «word_0» «word_1» r ⌝ }
 {
     Flags {
         values: word_0 % 65536 + 65536 * (word_1 % 65536),

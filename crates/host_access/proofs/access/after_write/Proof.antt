@@ -26,10 +26,10 @@ returns-4 : tie.Need-returns-4
 returns-4 c = simp (c .enum-told3 .given .1)
 
 returns-5 : tie.Need-returns-5
-returns-5 c = simp (c .before .before .before .enum-told5 .given .1, c .flags-from-words .ensures, c .before .flags-word-1 .ensures)
+returns-5 c = simp (c .before .before .before .enum-told5 .given .1, c .flags-from-words .ensures .answered, c .before .flags-word-1 .ensures .answered)
 
 returns-6 : tie.Need-returns-6
-returns-6 c = simp (c .before .before .before .enum-told6 .given .1, c .flags-from-words2 .ensures, c .before .flags-word-0 .ensures)
+returns-6 c = simp (c .before .before .before .enum-told6 .given .1, c .flags-from-words2 .ensures .answered, c .before .flags-word-0 .ensures .answered)
 
 returns-7 : tie.Need-returns-7
 returns-7 c = simp (c .before .enum-told7 .given .1, c .entry-bits .ensures)

@@ -27,10 +27,10 @@ returns-6 : tie.Need-returns-6
 returns-6 c = simp (c .before .enum-told3 .given .1, c .status-word .ensures)
 
 returns-7 : tie.Need-returns-7
-returns-7 c = simp (c .before .enum-told5 .given .1, c .flags-word-0 .ensures)
+returns-7 c = simp (c .before .enum-told5 .given .1, c .flags-word-0 .ensures .answered)
 
 returns-8 : tie.Need-returns-8
-returns-8 c = simp (c .before .enum-told6 .given .1, c .flags-word-1 .ensures)
+returns-8 c = simp (c .before .enum-told6 .given .1, c .flags-word-1 .ensures .answered)
 
 returns-9 : tie.Need-returns-9
 returns-9 c = simp (c .before .enum-told7 .given .1, c .entry-bits .ensures)

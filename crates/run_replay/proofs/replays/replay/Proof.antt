@@ -57,7 +57,7 @@ module _ (c : tie.After-run) where
   runs : {new : List ℕ} → Runs (asked .before .slot-at-entry .result) (asked .flags-from-words .result) new
       → Runs (slotGiven script registers) (flagsGiven registers) new
   runs {new} h =
-      subst (λ (f : Flags). Runs (slotGiven script registers) f new) (asked .flags-from-words .ensures)
+      subst (λ (f : Flags). Runs (slotGiven script registers) f new) (asked .flags-from-words .ensures .answered)
       (subst (λ (s : Slot). Runs s (asked .flags-from-words .result) new) (asked .before .slot-at-entry .ensures) h)
 
 -- from where the lent entries are back up to the run

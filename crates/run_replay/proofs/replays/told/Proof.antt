@@ -16,7 +16,7 @@ returns c =
     let start = slot .before .before in
     let left = leftOf (now (start .args .clocks)) (start .args .last .place) in
     let fits : left % 2 ^ 64 ≡ left = omega (arith, start .pre) in
-    simp (ending .ending-of .ensures, c .before .before .flags-word-0 .ensures, c .before .flags-word-1 .ensures, c .clocks-left .ensures ∙ fits)
+    simp (ending .ending-of .ensures, c .before .before .flags-word-0 .ensures .answered, c .before .flags-word-1 .ensures .answered, c .clocks-left .ensures ∙ fits)
 
 pub told-spec : {M : Type 1} → statement M
 told-spec =
