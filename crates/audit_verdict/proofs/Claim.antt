@@ -2,19 +2,17 @@
 use Prim.Native.Nat.{ℕ, suc, _+_, _<_, _^_}
 use mathlib.Core.Path.{_≡_, refl, sym, ap, subst, _∙_}
 use mathlib.Core.Logic.{inl, inr}
-use mathlib.Core.Bool.{Bool, true, false, cond, not, _&&_}
+use mathlib.Core.Bool.{true, false, _&&_}
 use mathlib.Core.List.{List}
 use native.Mathlib.Omega.{arith}
 use lib.ListN.{length, getD}
 use Rattle.families.specs.Family.{codeSize, pausesMemory}
 use Rattle.isa.proofs.Tests.{both-left, cond-elim}
-use Rattle.refusals.specs.declared.refusals.Fault.{Fault}
 use Rattle.log.specs.Log.{Log}
 use Rattle.log.proofs.ValidLaws.{valid-row-start}
-use Rattle.machine_actions.specs.declared.actions.Action.{Action}
 use Rattle.machine_state.specs.Slot.{slotOf}
 use Rattle.machine_state.specs.declared.slots.SlotName.{SlotName}
-use Rattle.machine_slot.specs.SlotStep.{effectOf, performOf}
+use Rattle.machine_slot.specs.SlotStep.{performOf}
 use Rattle.script.specs.Script.{Script}
 use Rattle.script.specs.Input.{scriptFits, rangesFit, inputFits}
 use Rattle.script.proofs.Scripts.{fits-script, Auditable}

@@ -1,6 +1,6 @@
 -- The verdict's number is that of the first of 01's tests which fails, on the way from the entry to the first exit. Assumes nothing.
 use Prim.Native.Nat.{ℕ, zero, suc, _+_}
-use mathlib.Core.Path.{_≡_, refl, sym, ap, ap₂, _∙_}
+use mathlib.Core.Path.{_≡_, refl, sym, ap, _∙_}
 use mathlib.Core.Bool.{Bool, true, false, cond, not, _&&_, _||_}
 use mathlib.Core.List.{List, [], _∷_, _++_}
 use native.Mathlib.Omega.{arith}
@@ -22,8 +22,8 @@ use Rattle.machine_actions.specs.declared.actions.Action.{Action}
 use Rattle.machine_actions.specs.declared.actions.Part.{Part}
 use Rattle.script.specs.Script.{Script, fetchAt}
 use Rattle.script.specs.Input.{listedIn, inputFits}
-use Rattle.audit_verdict.specs.Auditor.{verdictNumber, faultOf, targetOf, judgePoke, canRelease, judgeOf, knowNext, knowNothing, passAt, faultAt, verdictIn}
-use Rattle.audit_verdict.specs.Auditor.{walkOf, auditOf}
+use Rattle.audit_verdict.specs.Auditor.{verdictNumber, faultOf, targetOf, judgePoke, canRelease, judgeOf, knowNext, knowNothing, passAt, faultAt}
+use Rattle.audit_verdict.specs.Auditor.{verdictIn, walkOf, auditOf}
 use Rattle.audit_verdict.specs.Numbers.{isLow, isAddr, isData, isExit, someIs, addrHeld, leftPaused, actionTests, foundTests, numberIn}
 use Rattle.audit_verdict.specs.Numbers.{auditNumber}
 use Rattle.audit_verdict.specs.declared.verdicts.Judgement.{Judgement}

@@ -7,7 +7,7 @@ use native.Mathlib.Nat.{lt-of-not-le}
 use native.Mathlib.Omega.{arith}
 use lib.Dec.{eqb}
 use borrow.Author.Tests.{eqb-true, eqb-false, le-leb, lt-leb}
-use Rattle.families.specs.Family.{byFamily, codeSize, slotCount, unknownHangs, pausesMemory, highestEntry, within, Row, rowOf, Tells}
+use Rattle.families.specs.Family.{byFamily, codeSize, slotCount, unknownHangs, pausesMemory, highestEntry, within, FamilyRow, rowOf, Tells}
 
 -- what holds of families 1 to 4, and of a number that names none, holds of every number
 each : (P : ℕ → Type 0) → P 1 → P 2 → P 3 → P 4
@@ -54,5 +54,5 @@ unfolding byFamily rowOf
 highest = each (λ f. highestEntry f ≡ rowOf f .highest) refl refl refl refl (λ f a b c d. simp (a, b, c, d))
 
 -- all that is told of a family
-pub tells : {A : Type 0} {fact : ℕ → A} {column : Row → A} {f : ℕ} {r : A} → fact f ≡ column (rowOf f) → r ≡ fact f → Tells fact column f r
+pub tells : {A : Type 0} {fact : ℕ → A} {column : FamilyRow → A} {f : ℕ} {r : A} → fact f ≡ column (rowOf f) → r ≡ fact f → Tells fact column f r
 tells law e = record { answered = e; tabled = e ∙ law }

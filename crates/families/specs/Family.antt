@@ -43,26 +43,26 @@ highestEntry f = byFamily f 255 255 255 511
 -- ---- 01's table, with what its other sections say of a family
 
 -- a row: bytes of code RAM, slots, whether an unknown opcode hangs, whether flag 16 pauses memory, the highest entry point
-pub record Row : Type 0 where
+pub record FamilyRow : Type 0 where
   pub code-ram : ℕ
   pub slots : ℕ
   pub hangs : Bool
   pub pauses : Bool
   pub highest : ℕ
 
-abbrev pub row : ℕ → ℕ → Bool → Bool → ℕ → Row
-row code-ram slots hangs pauses highest = record { code-ram = code-ram; slots = slots; hangs = hangs; pauses = pauses; highest = highest }
+abbrev pub familyRow : ℕ → ℕ → Bool → Bool → ℕ → FamilyRow
+familyRow code-ram slots hangs pauses highest = record { code-ram = code-ram; slots = slots; hangs = hangs; pauses = pauses; highest = highest }
 
 -- the row of a family; a number that names none has an empty one
-unfoldable pub rowOf : ℕ → Row
+unfoldable pub rowOf : ℕ → FamilyRow
 rowOf f =
-    cond (eqb f 1) (row 64 2 false false 255)
-    (cond (eqb f 2) (row 128 2 true true 255)
-    (cond (eqb f 3) (row 256 2 true true 255)
-    (cond (eqb f 4) (row 512 1 false true 511)
-    (row 0 0 false false 0))))
+    cond (eqb f 1) (familyRow 64 2 false false 255)
+    (cond (eqb f 2) (familyRow 128 2 true true 255)
+    (cond (eqb f 3) (familyRow 256 2 true true 255)
+    (cond (eqb f 4) (familyRow 512 1 false true 511)
+    (familyRow 0 0 false false 0))))
 
 -- what is told of a family: the defined fact, and that is the family's row in this column of the table
-pub record Tells {A : Type 0} (fact : ℕ → A) (column : Row → A) (family : ℕ) (answer : A) : Type 0 where
+pub record Tells {A : Type 0} (fact : ℕ → A) (column : FamilyRow → A) (family : ℕ) (answer : A) : Type 0 where
   pub answered : answer ≡ fact family
   pub tabled : answer ≡ column (rowOf family)

@@ -1,7 +1,7 @@
 -- What the tests of an access come to, and what it leaves. Assumes nothing.
 use Prim.Native.Nat.{ℕ, _/_, _%_}
 use mathlib.Core.Path.{_≡_, refl, sym, _∙_}
-use mathlib.Core.Bool.{Bool, true, false, cond, _||_}
+use mathlib.Core.Bool.{Bool, true, false, cond}
 use Rattle.families.specs.Family.{knownFamily}
 use Rattle.isa.specs.declared.addresses.MmioAddress.{MmioAddress}
 use Rattle.refusals.specs.declared.refusals.Inaccessible.{Inaccessible}
@@ -17,14 +17,6 @@ use Rattle.host_registers.specs.declared.access.Access.{Access}
 use Rattle.host_registers.specs.declared.access.Outcome.{Outcome}
 use Rattle.host_registers.specs.declared.registers.Register.{Register}
 use Rattle.host_access.specs.Inside.{writeOutcome}
-
-pub or-true : (b : Bool) → (b || true) ≡ true
-or-true true = refl
-or-true false = refl
-
-pub or-false : (b : Bool) → (b || false) ≡ b
-or-false true = refl
-or-false false = refl
 
 -- a trigger writes one slot, started or aborted
 pub triggered-as : (s : State) (word : ℕ)

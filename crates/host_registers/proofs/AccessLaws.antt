@@ -38,9 +38,9 @@ begins family e = record { answered = e; numbered = subst P (sym e) number }
     number : P (freshOf family)
     number = cond-elim P (knownFamily family) (λ u. simp u) (λ u. simp u)
 
-split : {A : Type 0} (b : Bool) → (b ≡ true → A) → (b ≡ false → A) → A
-split true f g = f refl
-split false f g = g refl
+by-test : {A : Type 0} (b : Bool) → (b ≡ true → A) → (b ≡ false → A) → A
+by-test true f g = f refl
+by-test false f g = g refl
 
 -- a refused access is not done
 undone : {A : Type 0} {why : Inaccessible} → Outcome.Refused why ≡ Outcome.Done → A
@@ -141,9 +141,9 @@ module _ (s : State) (address : MmioAddress) (word : ℕ) where
   write-law : Law (writeOf s address word)
   unfolding writeOf writeRefusal
   write-law =
-      split (knownFamily (s .family))
-      (λ u. split (isWritable register)
-      (λ v. split (isTaken s address word)
+      by-test (knownFamily (s .family))
+      (λ u. by-test (isWritable register)
+      (λ v. by-test (isTaken s address word)
       (λ w. simp (u, v, w) (record {
         numbered = simp (
           u,
@@ -162,7 +162,7 @@ module _ (s : State) (address : MmioAddress) (word : ℕ) where
         unmoved = refl;
         spares = spares-all s;
       })))
-      (λ v. split (isTaken s address word)
+      (λ v. by-test (isTaken s address word)
       (λ w. simp (u, v, w) (record { numbered = simp (u, v); unmoved = refl; spares = spares-all s }))
       (λ w. simp (u, v, w) (record { numbered = simp (u, v); unmoved = refl; spares = spares-all s }))))
       (λ u. simp u (record { numbered = simp u; unmoved = refl; spares = spares-all s }))

@@ -100,8 +100,8 @@ upload-made s at word made = record {
 
 -- ---- what reaches neither code nor slots
 
-kept : (s t : State) → t .family ≡ s .family → t .code ≡ s .code → t .marks ≡ s .marks → t .a ≡ s .a → t .b ≡ s .b → HostMade s → HostMade t
-kept s t f c m a b made = record {
+same-host : (s t : State) → t .family ≡ s .family → t .code ≡ s .code → t .marks ≡ s .marks → t .a ≡ s .a → t .b ≡ s .b → HostMade s → HostMade t
+same-host s t f c m a b made = record {
   roomy = record { code = rw c (made .roomy .code); marks = rw m (made .roomy .marks) };
   plain = rw m (made .plain);
   a = rw (f, a) (made .a);
@@ -168,13 +168,13 @@ module _ (s : State) (address : MmioAddress) (word : ℕ) (made : HostMade s) (k
       (λ _. slot-made s name (aborted (slotOf s name)) (s .flags) made (inl refl) (λ _. refl))
 
   after-made : (register : Register) → HostMade (afterWrite s register word)
-  after-made Register.Control = kept s _ refl refl refl refl refl made
-  after-made Register.EntryPoint = kept s _ refl refl refl refl refl made
+  after-made Register.Control = same-host s _ refl refl refl refl refl made
+  after-made Register.EntryPoint = same-host s _ refl refl refl refl refl made
   after-made Register.Status = made
   after-made Register.Trigger = trigger-made
-  after-made Register.Flags0 = kept s _ refl refl refl refl refl made
-  after-made Register.Flags1 = kept s _ refl refl refl refl refl made
-  after-made Register.EntryPointHigh = kept s _ refl refl refl refl refl made
+  after-made Register.Flags0 = same-host s _ refl refl refl refl refl made
+  after-made Register.Flags1 = same-host s _ refl refl refl refl refl made
+  after-made Register.EntryPointHigh = same-host s _ refl refl refl refl refl made
   after-made (Register.Code at) = upload-made s (at .0) word made
   after-made Register.Events = made
   after-made Register.Unlisted = made

@@ -8,7 +8,7 @@ use lib.Dec.{eqb}
 use borrow.Author.Tests.{eqb-true, eq-eqb}
 use Rattle.families.specs.Family.{unknownHangs}
 use Rattle.isa.proofs.Tests.{both-left, both-right}
-use Rattle.machine_flags.specs.Flags.{bitOf}
+use Rattle.words.specs.Bits.{bitOf}
 use Rattle.machine_state.specs.Slot.{hasSlot, isIdle}
 use Rattle.machine_state.specs.declared.slots.Mode.{Mode}
 use Rattle.machine_state.specs.declared.slots.Slot.{Slot}
@@ -40,15 +40,16 @@ lit-one true e = (λ _. refl, λ _. e)
 lit-one false e = (λ h. absurd (let z : ⊥ = omega arith in z), λ t. unlit t)
 
 -- the bits of a byte with three above it
-record Above (low p q r half : ℕ) : Type 0 where
-  byte : half % 2 ^ 8 ≡ low
+record Above (low-bits p q r half : ℕ) : Type 0 where
+  byte : half % 2 ^ 8 ≡ low-bits
   bit-8 : bitOf half 8 ≡ p
   bit-9 : bitOf half 9 ≡ q
   bit-10 : bitOf half 10 ≡ r
   below : half < 2 ^ 11
 
-above : (low p q r : ℕ) {a b c : ℕ} → a ≡ p * 256 → b ≡ q * 512 → c ≡ r * 1024 → low < 256 → p < 2 → q < 2 → r < 2 → Above low p q r (low + a + b + c)
-above low p q r d e f l x y z = record { byte = omega arith; bit-8 = omega arith; bit-9 = omega arith; bit-10 = omega arith; below = omega arith }
+high-bits : (low-bits p q r : ℕ) {a b c : ℕ} → a ≡ p * 256 → b ≡ q * 512 → c ≡ r * 1024 → low-bits < 256 → p < 2 → q < 2 → r < 2
+    → Above low-bits p q r (low-bits + a + b + c)
+high-bits low-bits p q r d e f l x y z = record { byte = omega arith; bit-8 = omega arith; bit-9 = omega arith; bit-10 = omega arith; below = omega arith }
 
 -- ---- a slot's half
 
@@ -78,8 +79,8 @@ hangs-there family (inl e) = rw e refl
 hangs-there family (inr e) = rw e refl
 
 module _ (family : ℕ) (slot : Slot) where
-  abbrev low : ℕ
-  low = slot .ip .0 % 256
+  abbrev low-bits : ℕ
+  low-bits = slot .ip .0 % 256
 
   abbrev executes : Bool
   executes = not (isIdle (slot .mode))
@@ -90,10 +91,10 @@ module _ (family : ℕ) (slot : Slot) where
   abbrev ninth : Bool
   ninth = showsBit8 family (slot .ip .0)
 
-  bits : Above low (lit executes) (lit hangs) (lit ninth) (slotStatus family slot)
+  bits : Above low-bits (lit executes) (lit hangs) (lit ninth) (slotStatus family slot)
   unfolding slotStatus
   bits =
-      above low (lit executes) (lit hangs) (lit ninth) (weighed executes 256) (weighed hangs 512) (weighed ninth 1024) (omega arith)
+      high-bits low-bits (lit executes) (lit hangs) (lit ninth) (weighed executes 256) (weighed hangs 512) (weighed ninth 1024) (omega arith)
       (lit-small executes) (lit-small hangs) (lit-small ninth)
 
   slot-shown : ShowsSlot family slot (slotStatus family slot)

@@ -5,7 +5,7 @@ use mathlib.Core.Logic.{_⊎_, inl, inr}
 use mathlib.Core.Bool.{Bool, true, false, cond, _&&_}
 use native.Mathlib.Omega.{arith}
 use borrow.Author.Tests.{eq-eqb, ne-eqb}
-use Rattle.machine_flags.specs.Flags.{bitOf}
+use Rattle.words.specs.Bits.{bitOf}
 use Rattle.machine_state.specs.Slot.{hasSlot, slotOf, withSlot}
 use Rattle.machine_state.specs.declared.slots.Slot.{Slot}
 use Rattle.machine_state.specs.declared.slots.SlotName.{SlotName}

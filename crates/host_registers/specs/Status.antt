@@ -5,7 +5,7 @@ use mathlib.Core.Logic.{_↔_, _⊎_}
 use mathlib.Core.Bool.{Bool, true, false, cond, not, _&&_}
 use lib.Dec.{eqb}
 use Rattle.families.specs.Family.{unknownHangs}
-use Rattle.machine_flags.specs.Flags.{bitOf}
+use Rattle.words.specs.Bits.{bitOf}
 use Rattle.machine_state.specs.Slot.{hasSlot, isIdle}
 use Rattle.machine_state.specs.declared.slots.Mode.{Mode}
 use Rattle.machine_state.specs.declared.slots.Slot.{Slot}

@@ -4,7 +4,7 @@ use mathlib.Core.Path.{_≡_}
 use mathlib.Core.Logic.{_⊎_}
 use mathlib.Core.Bool.{Bool, cond, _&&_}
 use lib.Dec.{eqb}
-use Rattle.machine_flags.specs.Flags.{bitOf}
+use Rattle.words.specs.Bits.{bitOf}
 use Rattle.machine_state.specs.Slot.{hasSlot, slotOf, withSlot}
 use Rattle.machine_state.specs.declared.slots.Mode.{Mode}
 use Rattle.machine_state.specs.declared.slots.Slot.{Slot}

@@ -60,10 +60,10 @@ end text (suc j) rest p h k =
     ∙ ap (λ (l : List ℕ). l ++ drop (suc j) text) (sym (last-digit j rest k))
 
 -- there is room for the digits still to come
-pub down : (first rest : ℕ) → rest < 10 ^ first → 10 ≤ rest → (0 < first - 1) × (rest / 10 < 10 ^ (first - 1))
-down zero rest h k = absurd (let z : ⊥ = omega arith in z)
-down (suc zero) rest h k = absurd (let z : ⊥ = omega arith in z)
-down (suc (suc j)) rest h k =
+pub fewer-digits : (first rest : ℕ) → rest < 10 ^ first → 10 ≤ rest → (0 < first - 1) × (rest / 10 < 10 ^ (first - 1))
+fewer-digits zero rest h k = absurd (let z : ⊥ = omega arith in z)
+fewer-digits (suc zero) rest h k = absurd (let z : ⊥ = omega arith in z)
+fewer-digits (suc (suc j)) rest h k =
     (omega arith, subst (λ (m : ℕ). rest / 10 < 10 ^ m) (sym (less (suc j))) (tenth (suc j) rest h))
 
 -- ---- how many

@@ -91,11 +91,11 @@ pub puts-as : (d : List ℕ) (at : ℕ) (t u : List ℕ) (r : ℕ) (e : List ℕ
 puts-as d at t u r e q p = puts d at u r e (sym (p .kept) ∙ p .size) (p .answered ∙ ap (after d at) q) (p .contents ∙ ap (put d at) q)
 
 -- t put at `at`, and u at the place that this answered: room is asked of the whole alone
-pub then : (d : List ℕ) (at : ℕ) (t u : List ℕ) {a r : ℕ} {m e : List ℕ}
+pub both-stored : (d : List ℕ) (at : ℕ) (t u : List ℕ) {a r : ℕ} {m e : List ℕ}
     → Stored d at t a m
     → Stored m a u r e
     → Stored d at (t ++ u) r e
-then d at t u {a} {r} {m} {e} p q room =
+both-stored d at t u {a} {r} {m} {e} p q room =
     let len = length-append t u in
     let fits : at + length t ≤ length d = omega (arith, len) in
     let one = p fits in
@@ -114,28 +114,20 @@ put-none d at h =
     ∙ take-append-drop at d
 
 -- where a run of texts begins
-pub none : (d : List ℕ) (at : ℕ) → Stored d at [] at d
-none d at room = (omega arith, sym (put-none d at (omega arith)))
+pub no-text : (d : List ℕ) (at : ℕ) → Stored d at [] at d
+no-text d at room = (omega arith, sym (put-none d at (omega arith)))
 
 -- a text by another name
 pub stored-as : (d : List ℕ) (at : ℕ) {t u : List ℕ} {r : ℕ} {e : List ℕ} → t ≡ u → Stored d at t r e → Stored d at u r e
 stored-as d at {t} {u} {r} {e} q p = rw (← q) p
 
 -- a text at the buffer's start, with the rest as lent
-pub whole : (d t : List ℕ) {r : ℕ} {e : List ℕ}
+pub all-stored : (d t : List ℕ) {r : ℕ} {e : List ℕ}
     → length t ≤ length d
     → Stored d 0 t r e
     → (r ≡ length t) × (e ≡ t ++ drop (length t) d)
-whole d t {r} {e} h p =
+all-stored d t {r} {e} h p =
     let z : 0 + length t ≡ length t = omega arith in
     let room : 0 + length t ≤ length d = omega arith in
     let q = p room in
     (q .0 ∙ z, q .1 ∙ put-room d 0 t room ∙ ap (λ (k : ℕ). t ++ drop k d) z)
-
--- and r counts its bytes, in the form in which `&out[..r]` asks for it
-pub counts : (d t : List ℕ) {r : ℕ} {e : List ℕ} → length t ≤ length d → Stored d 0 t r e → (r ≤ length e) × (r ≡ length (take r e))
-counts d t {r} {e} h p =
-    let q = whole d t h p in
-    let first : take r e ≡ t = ap (take r) (q .1) ∙ take-at t (drop (length t) d) r (sym (q .0)) in
-    let size : length e ≡ length t + length (drop (length t) d) = ap length (q .1) ∙ length-append t (drop (length t) d) in
-    (omega (arith, q .0, size), q .0 ∙ sym (ap length first))

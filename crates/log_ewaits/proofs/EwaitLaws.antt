@@ -11,7 +11,8 @@ use borrow.Author.Tests.{ltb-true, eqb-true}
 use Rattle.log_waits.specs.Left.{leftFrom, leftOf}
 use Rattle.log.specs.Log.{Log}
 use Rattle.log.specs.Validity.{validLog, validPlace}
-use Rattle.log_ewaits.specs.Ewait.{bitOf, hasReading, passing, searchIn, searchFrom, in64, ewaitOf}
+use Rattle.log_ewaits.specs.Ewait.{hasReading, passing, searchIn, searchFrom, in64, ewaitOf}
+use Rattle.words.specs.Bits.{bitOf}
 use Rattle.log_ewaits.specs.Ewait.{passedBy, ReadsAsked, OnReading, FirstFrom, leftAfter, SameReadings, withValues, Ewaits}
 use Rattle.log_ewaits.specs.declared.ewait.Released.{Released}
 use Rattle.log.specs.declared.place.Place.{Place}

@@ -71,16 +71,16 @@ module _ (log : Log) (event value : ℕ) where
       pick P true f g = f refl
       pick P false f g = g refl
 
-  kept : (row used : ℕ) (r : Released) → FirstFrom log event value row used r → FirstFrom log event value row used (in64 r)
-  kept row used (Released.At p n) k = record {
+  same-first : (row used : ℕ) (r : Released) → FirstFrom log event value row used r → FirstFrom log event value row used (in64 r)
+  same-first row used (Released.At p n) k = record {
     from = k .from;
     inside = k .inside;
     none-before = k .none-before;
     later = k .later;
     present = λ e. (k .present e .0, rw (k .present e .1) refl);
   }
-  kept row used (Released.End n) k = k
+  same-first row used (Released.End n) k = k
 
   pub ewait-first : (p : Place) → FirstFrom log event value (p .row) (p .used) (ewaitOf log p event value)
   ewait-first p =
-      kept (p .row) (p .used) (searchFrom log event value (p .row) (p .used)) (search-first (length (log .clocks) - p .row) (p .row) (p .used) refl)
+      same-first (p .row) (p .used) (searchFrom log event value (p .row) (p .used)) (search-first (length (log .clocks) - p .row) (p .row) (p .used) refl)

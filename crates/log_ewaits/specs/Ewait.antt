@@ -1,17 +1,15 @@
 -- A wait for an event (01, "Steps and time").
-use Prim.Native.Nat.{ℕ, zero, suc, _+_, _-_, _/_, _%_, _^_, _≤_, _<_}
+use Prim.Native.Nat.{ℕ, zero, suc, _+_, _-_, _%_, _^_, _≤_, _<_}
 use mathlib.Core.Path.{_≡_}
 use mathlib.Core.Bool.{Bool, cond, _&&_}
 use mathlib.Core.List.{List}
 use lib.ListN.{length, getD}
 use lib.Dec.{ltb, eqb}
+use Rattle.words.specs.Bits.{bitOf}
 use Rattle.log_waits.specs.Left.{leftOf}
 use Rattle.log.specs.Log.{Log, logOf}
 use Rattle.log.specs.declared.place.Place.{Place}
 use Rattle.log_ewaits.specs.declared.ewait.Released.{Released}
-
-abbrev pub bitOf : ℕ → ℕ → ℕ
-bitOf x n = x / 2 ^ n % 2
 
 -- the row has a reading of the event, and it is the value; events are below 32, and no reading is above 1
 unfoldable pub hasReading : ℕ → ℕ → ℕ → ℕ → Bool

@@ -8,7 +8,8 @@ use lib.Bits.{bitAnd, bitOr, bitXor, and-step, or-step, xor-add-and, and-shr, or
 use lib.Pow.{pow-lt, pow-add, shl-shr}
 use borrow.Author.Tests.{lt-ltb, le-ltb}
 use Rattle.machine_flags.specs.Flags.{setBit, clearBit, enablesAfter, valuesAfter, changedFlags}
-use Rattle.machine_flags.specs.Flags.{bitOf, enableAfter, valueAfter, SameBits, ChangesFlags}
+use Rattle.machine_flags.specs.Flags.{enableAfter, valueAfter, SameBits, ChangesFlags}
+use Rattle.words.specs.Bits.{bitOf}
 use Rattle.machine_flags.specs.declared.flags.Change.{Change}
 use Rattle.machine_flags.specs.declared.flags.Flags.{Flags}
 

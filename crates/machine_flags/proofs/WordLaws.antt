@@ -3,7 +3,8 @@ use Prim.Native.Nat.{ℕ, _+_, _-_, _/_, _%_, _^_, _<_}
 use mathlib.Core.Path.{_≡_, sym, ap, _∙_}
 use native.Mathlib.Omega.{arith}
 use lib.Pow.{shr-shr, field, mod-mod-pow}
-use Rattle.machine_flags.specs.Flags.{bitOf, flagsWord0, flagsWord1, flagsFromWords, ShowsFlags, TellsWord0, TellsWord1, MadeOf}
+use Rattle.machine_flags.specs.Flags.{flagsWord0, flagsWord1, flagsFromWords, ShowsFlags, TellsWord0, TellsWord1, MadeOf}
+use Rattle.words.specs.Bits.{bitOf}
 use Rattle.machine_flags.specs.declared.flags.Flags.{Flags}
 
 -- a word's low half has its bits

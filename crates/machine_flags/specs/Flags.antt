@@ -5,6 +5,7 @@ use mathlib.Core.Bool.{Bool, cond, _&&_}
 use lib.Bits.{bitAnd, bitOr, bitXor}
 use lib.Dec.{ltb, eqb}
 use Rattle.families.specs.Family.{pausesMemory}
+use Rattle.words.specs.Bits.{bitOf}
 use Rattle.machine_flags.specs.declared.flags.Change.{Change}
 use Rattle.machine_flags.specs.declared.flags.Flags.{Flags}
 
@@ -33,10 +34,6 @@ changedFlags change flag flags =
     flags
 
 -- ---- what a change promises, bit by bit
-
--- bit n of a word
-abbrev pub bitOf : ℕ → ℕ → ℕ
-bitOf word n = word / 2 ^ n % 2
 
 -- the flag's own enable after a change: unset clears it, set1 and set0 set it
 abbrev pub enableAfter : Change → ℕ

@@ -15,7 +15,8 @@ use Rattle.log_waits.specs.Left.{leftOf}
 use Rattle.log_waits.specs.Wait.{waitOf}
 use Rattle.log_waits.proofs.LeftLaws.{left-on, left-in-row, left-from, left-later, left-fits}
 use Rattle.log_waits.proofs.WaitLaws.{wait-cut, wait-spent, wait-valid}
-use Rattle.log_ewaits.specs.Ewait.{bitOf, hasReading, searchFrom, passedBy, OnReading, leftAfter}
+use Rattle.log_ewaits.specs.Ewait.{hasReading, searchFrom, passedBy, OnReading, leftAfter}
+use Rattle.words.specs.Bits.{bitOf}
 use Rattle.log_ewaits.specs.declared.ewait.Released.{Released}
 use Rattle.log_ewaits.proofs.EwaitLaws.{FoundBy, EndsAt, EndsFrom, ReleasedWithin, readsAt, search-finds, search-ends}
 use Rattle.log_ewaits.proofs.EwaitLaws.{ewait-on-reading, ewait-spent, ewait-valid, valid-search}

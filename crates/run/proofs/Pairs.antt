@@ -12,7 +12,8 @@ use Rattle.isa.specs.Opcode.{opcodeAt}
 use Rattle.isa.specs.Reader.{decodeOf}
 use Rattle.isa_fetch.specs.Fetch.{allMarked, fetchOf}
 use Rattle.log_waits.specs.Left.{leftIn}
-use Rattle.log_ewaits.specs.Ewait.{bitOf, hasReading, searchIn}
+use Rattle.log_ewaits.specs.Ewait.{hasReading, searchIn}
+use Rattle.words.specs.Bits.{bitOf}
 use Rattle.log.specs.Log.{logOf}
 use Rattle.log.specs.Validity.{validLog, validPlace}
 use Rattle.machine_slot.specs.SlotStep.{performOf}

@@ -20,7 +20,7 @@ use Rattle.machine_slot.specs.declared.slot_steps.Effect.{Effect}
 use Rattle.machine_slot.specs.declared.slot_steps.SlotStep.{SlotStep}
 use Rattle.run.specs.Run.{wroteBy}
 use Rattle.run.specs.SlotRun.{Scene, fetchIn, SlotRun, slotBegun, tookSlotStep, nextSlotStep, slotRunFor}
-use Rattle.run.specs.Replay.{maxWrites}
+use Rattle.run.specs.Replay.{mostWrites}
 use Rattle.run.proofs.SlotRuns.{slot-elim, slot-step-elim}
 
 -- ---- a write moves IP on by three bytes at least, and IP stays within 512 bytes
@@ -74,6 +74,6 @@ module _ (x : Scene) where
 
   -- a slot writes at most 170 times, however many steps it takes
   pub slot-room : (slot : Slot) (flags : Flags) → slot .ip .0 ≤ 512 → (n : ℕ)
-      → length (slotRunFor x n (slotBegun slot flags) .writes) ≤ maxWrites
+      → length (slotRunFor x n (slotBegun slot flags) .writes) ≤ mostWrites
   slot-room slot flags h n =
       omega (arith, slot-elim x (Room (slot .ip .0)) (room-next (slot .ip .0)) n (slotBegun slot flags) (record { taken = omega arith; within = h }))

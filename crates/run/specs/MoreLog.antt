@@ -9,7 +9,8 @@ use Rattle.log.specs.Log.{Log, logOf}
 use Rattle.log.specs.Validity.{validLog, logStart}
 use Rattle.log.specs.declared.place.Place.{Place}
 use Rattle.log_waits.specs.Left.{leftOf}
-use Rattle.log_ewaits.specs.Ewait.{bitOf, SameReadings}
+use Rattle.log_ewaits.specs.Ewait.{SameReadings}
+use Rattle.words.specs.Bits.{bitOf}
 use Rattle.machine_state.specs.Slot.{slotOf}
 use Rattle.machine_state.specs.declared.slots.Mode.{Mode}
 use Rattle.machine_state.specs.declared.slots.SlotName.{SlotName}

@@ -95,8 +95,8 @@ answerNumber (ReplayAnswer.Ended told) = 0
 answerNumber (ReplayAnswer.Refused why) = unreplayableNumber why
 
 -- the writes that a script can make at most: each takes three bytes of a code RAM of 512, and IP never goes back
-abbrev pub maxWrites : ℕ
-maxWrites = 170
+abbrev pub mostWrites : ℕ
+mostWrites = 170
 
 -- the entries that must be lent, two for each of them
 abbrev pub maxEntries : ℕ
@@ -150,7 +150,7 @@ module _ (x : Scene) (slot : Slot) (flags : Flags) where
 
   -- at most 170 writes, however many steps a script takes
   abbrev pub FewWrites : Type 0
-  FewWrites = scriptFits (slotScript x slot) ≡ true → (n : ℕ) → length (slotRunFor x n (slotBegun slot flags) .writes) ≤ maxWrites
+  FewWrites = scriptFits (slotScript x slot) ≡ true → (n : ℕ) → length (slotRunFor x n (slotBegun slot flags) .writes) ≤ mostWrites
 
   -- what holds of a run that ended, in every state that holds the slot, and of the lent entries, old and new
   pub record RunEnds (old new : List ℕ) (last : Progress) : Type 0 where
@@ -159,7 +159,7 @@ module _ (x : Scene) (slot : Slot) (flags : Flags) where
     -- and wrote what they write
     pub wrote : (name : SlotName) (s : State) → Holds x slot flags name s → new ≡ writtenInto old (fullRun name (x .log) s .writes)
     -- at most 170 writes
-    pub few : last .writes ≤ maxWrites
+    pub few : last .writes ≤ mostWrites
     -- a slot that still runs at the end is one that the next step stops
     pub stops : last .slot .mode ≡ Mode.Running
         → (why : Unreadable)
@@ -189,7 +189,7 @@ module _ (x : Scene) (slot : Slot) (flags : Flags) where
 
 -- at most 170 writes are told
 abbrev pub TellsFew : ReplayAnswer → Type 0
-TellsFew (ReplayAnswer.Ended told) = told .writes ≤ maxWrites
+TellsFew (ReplayAnswer.Ended told) = told .writes ≤ mostWrites
 TellsFew (ReplayAnswer.Refused why) = Unit {0}
 
 -- ---- replay: what is told of the run of a script from its entry, with the registers that were given

@@ -101,7 +101,8 @@ loop-again c =
     let f = found j in
     let next : c .know-next .result ≡ knowNext (actionOf (instruction f)) (known j)
     = c .know-next .ensures ∙ ap (λ (a : Action). knowNext a (known j)) (j .before .action-of .ensures) in
-    let goes = going-on (loop f .loop .inv) (instruction f) (its-size f) (fetched f) (lies f .0) (lies f .1) (sym (judged j) ∙ c .before .enum-told2 .given .1) in
+    let fine = sym (judged j) ∙ c .before .enum-told2 .given .1 in
+    let goes = going-on (loop f .loop .inv) (instruction f) (its-size f) (fetched f) (lies f .0) (lies f .1) fine in
     subst (Going (x f) (ranges (loop f .before)) (loop f .loop .at + its-size f)) (sym next) goes
 
 add-count : tie.Need-add-t21 Inv-loop μ-loop

@@ -2,8 +2,7 @@
 use borrow.Author.Tests.{eq-eqb, ne-eqb, not-true, not-false}
 use Rattle.host_registers.specs.Access.{isAbort}
 use Rattle.host_registers.specs.Trigger.{isStart}
-use mathlib.Core.Bool.{not}
-use Rattle.host_access.proofs.Outcomes.{or-true, or-false}
+use mathlib.Core.Bool.{not, or-true, or-false}
 use borrow.Author.Needs.{needs}
 use Rattle.host_access.proofs.access.is_taken.Statement.{statement}
 use Rattle.host_access.proofs.access.is_taken.Tie as tie

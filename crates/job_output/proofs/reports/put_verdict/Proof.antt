@@ -5,7 +5,7 @@ use mathlib.Core.Path.{ap, sym, _∙_}
 use mathlib.Core.List.{List}
 use Rattle.job_report.specs.Lines.{familyLine, faultLine}
 use Rattle.job_output.specs.Inside.{verdictLine}
-use Rattle.job_text.proofs.PutLaws.{then, stored-as}
+use Rattle.job_text.proofs.PutLaws.{both-stored, stored-as}
 use borrow.Author.Needs.{needs}
 use Rattle.job_output.proofs.reports.put_verdict.Statement.{statement}
 use Rattle.job_output.proofs.reports.put_verdict.Tie as tie
@@ -23,7 +23,7 @@ returns c =
     let passed = c .before .before .before in
     let family = passed .before .before in
     let v = passed .verdict .given in (
-      then (now (entered family .args .out)) 0 (first family) (verdictLine (entered family .args .verdict)) (family .put-family .ensures .0)
+      both-stored (now (entered family .args .out)) 0 (first family) (verdictLine (entered family .args .verdict)) (family .put-family .ensures .0)
           (stored-as _ _ (sym (ap verdictLine (v .1))) (c .put-pass .ensures)),
       family .put-family .ensures .1,
     )
@@ -35,7 +35,7 @@ returns-2 c =
     let family = refused .before .before in
     let v = refused .verdict2 .given in
     let line = ap (λ (n : ℕ). faultLine n (v .0 .1 .0 .0)) (numbered .fault-number .ensures) in (
-      then (now (entered family .args .out)) 0 (first family) (verdictLine (entered family .args .verdict)) (family .put-family .ensures .0)
+      both-stored (now (entered family .args .out)) 0 (first family) (verdictLine (entered family .args .verdict)) (family .put-family .ensures .0)
           (stored-as _ _ (line ∙ sym (ap verdictLine (v .1))) (c .put-fault .ensures)),
       family .put-family .ensures .1,
     )

@@ -20,7 +20,7 @@ use Rattle.job_report.specs.Report.{lastLines, runLines, jobLines, reportOf, st
 use Rattle.job_report.specs.Promises.{maxReport, Reports}
 use Rattle.job_report.specs.JobScript.{verdictOf, jobRun}
 use Rattle.job_output.specs.Inside.{pairLines, RunsScript, ReadyToRun, RanJob}
-use Rattle.job_text.proofs.PutLaws.{then, whole, stored-as}
+use Rattle.job_text.proofs.PutLaws.{both-stored, all-stored, stored-as}
 use Rattle.job_report.proofs.Lengths.{refused-length, job-length}
 use Rattle.job_report.proofs.JobRuns.{follows-steps, tells-steps}
 use Rattle.job_report.proofs.Worked.{worked}
@@ -37,7 +37,7 @@ reports : (bytes old : List ℕ) {t : List ℕ} {r : ℕ} {new : List ℕ} → t
 reports bytes old e fits size h follows =
     let room : length (reportOf bytes) ≤ length old = subst (λ (t : List ℕ). length t ≤ length old) e (omega arith) in
     let stored = stored-as old 0 e h in
-    let w = whole old (reportOf bytes) room stored in
+    let w = all-stored old (reportOf bytes) room stored in
     let n = length (reportOf bytes) in
     let told = ap₂ take (w .0) (w .1) ∙ take-at (reportOf bytes) (drop n old) n refl in
     let kept = ap₂ drop (w .0) (w .1) ∙ drop-at (reportOf bytes) (drop n old) n refl ∙ ap (λ (k : ℕ). drop k old) (sym (w .0)) in
@@ -223,12 +223,12 @@ returns-4 c =
     let at = first .put-verdict2 .result in
     let writes = writeLines (jobRun j .writes) in
     let pairs = ap pairLines (ran-job k .wrote) ∙ pairs-writes (jobRun j .writes) in
-    let run = then d at (writes ++ rowLines 0 (knownOf j)) (lastLines (j .state) (progressOf (jobRun j)))
-    (then d at writes (rowLines 0 (knownOf j)) (stored-as _ _ pairs (written .put-writes .ensures)) (known .put-known .ensures))
+    let run = both-stored d at (writes ++ rowLines 0 (knownOf j)) (lastLines (j .state) (progressOf (jobRun j)))
+    (both-stored d at writes (rowLines 0 (knownOf j)) (stored-as _ _ pairs (written .put-writes .ensures)) (known .put-known .ensures))
     (stored-as _ _ (ap (lastLines (j .state)) (ran-job k .came)) (c .put-last .ensures)) in
     job-reports e (first .put-verdict2 .ensures .1)
     (stored-as _ _ (pass-lines j (family-is a) (verdict-is a) (told .enum-told .given .1))
-    (then (lent-bytes e) 0 _ (runLines j) (first .put-verdict2 .ensures .0) run))
+    (both-stored (lent-bytes e) 0 _ (runLines j) (first .put-verdict2 .ensures .0) run))
 
 pub report-spec : {M : Type 1} → statement M
 report-spec =

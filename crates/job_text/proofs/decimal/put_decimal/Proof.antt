@@ -9,7 +9,7 @@ use lib.ListN.{length, take, drop, set, length-set, length-drop}
 use lib.Seq.{take-all}
 use Rattle.job_text.specs.Digits.{digit, decimalIn, decimal}
 use Rattle.job_text.proofs.PutLaws.{puts-as}
-use Rattle.job_text.proofs.DecimalLaws.{next-digit, end, down, digits-of}
+use Rattle.job_text.proofs.DecimalLaws.{next-digit, end, fewer-digits, digits-of}
 use Rattle.job_text.proofs.decimal.put_decimal.Statement.{statement}
 use Rattle.job_text.proofs.decimal.put_decimal.Tie as tie
 
@@ -31,7 +31,7 @@ loop-holds c = (refl, search needs, search needs, search needs, append-nil (deci
 loop-again : tie.Need-loop-again Inv-loop μ-loop
 loop-again c =
     let l = c .before .loop in
-    let next = down (l .first) (l .rest) (l .inv .3) (omega (arith, c .loop-test .taken)) in (
+    let next = fewer-digits (l .first) (l .rest) (l .inv .3) (omega (arith, c .loop-test .taken)) in (
       length-set (l .text) (l .first - 1) (digit (l .rest % 10)) ∙ l .inv .0,
       search needs,
       next .0,
@@ -40,11 +40,11 @@ loop-again c =
     )
 
 -- the part of the array that is put is the number's digits
-whole : (c : tie.After-loop Inv-loop μ-loop)
+all-digits : (c : tie.After-loop Inv-loop μ-loop)
     → take (20 - (c .before .loop .first - 1)) (drop (c .before .loop .first - 1) (set (c .before .loop .text) (c .before .loop .first - 1) (digit
     (c .before .loop .rest))))
     ≡ decimal (c .before .before .args .n)
-whole c =
+all-digits c =
     let l = c .before .loop in
     let text = set (l .text) (l .first - 1) (digit (l .rest)) in
     let size : length text ≡ 20 = length-set (l .text) (l .first - 1) (digit (l .rest)) ∙ l .inv .0 in
@@ -67,7 +67,7 @@ returns c =
     let done = lent .before in
     let a = done .before .before .args in
     record {
-      puts = puts-as (a .out .now) (a .at) _ (decimal (a .n)) (call .result) (call .last .0) (whole done) (call .ensures);
+      puts = puts-as (a .out .now) (a .at) _ (decimal (a .n)) (call .result) (call .last .0) (all-digits done) (call .ensures);
       digits = digits-of (a .n);
     }
 

@@ -66,15 +66,15 @@ module _ (c : tie.At-loop Inv-loop μ-loop) where
   begins : (slot ≡ entered .args .slot) × (flags ≡ entered .args .flags)
   begins = (ap (λ (p : Progress). p .slot) (c .before .begin .ensures), ap (λ (p : Progress). p .flags) (c .before .begin .ensures))
 
-  low : slot .ip .0 ≤ 512
-  low = rw (begins .0) (entered .pre .0)
+  ip-low : slot .ip .0 ≤ 512
+  ip-low = rw (begins .0) (entered .pre .0)
 
   -- where it is left, the run has come to its end
   same : length (c .loop .writes) ≡ length (now (entered .args .writes))
   same =
       ap length (c .loop .inv .1)
       ∙ written-length (now (entered .args .writes)) (run scene slot flags (c .loop .steps) .writes)
-      (omega (arith, entered .pre .2, writes-small scene slot flags low (entered .pre .1) (c .loop .steps)))
+      (omega (arith, entered .pre .2, writes-small scene slot flags ip-low (entered .pre .1) (c .loop .steps)))
 
   ended : run scene slot flags (c .loop .steps) ≡ fullSlotRun scene slot flags
       → RunsThrough scene (entered .args .slot) (entered .args .flags) (now (entered .args .writes)) (c .loop .writes) (c .loop .progress)
@@ -108,24 +108,24 @@ module _ (c : tie.After-take-slot-step Inv-loop μ-loop) where
       × (loop .loop .progress .waited + c .take-slot-step .result .waited < 2 ^ 64)
       × (loop .loop .progress .searched + c .take-slot-step .result .searched < 2 ^ 64)
   slot-step-fits-at =
-      slot-step-fits (scene loop) (slot loop) (flags loop) (low loop) (entered loop .pre .1)
+      slot-step-fits (scene loop) (slot loop) (flags loop) (ip-low loop) (entered loop .pre .1)
       (loop .loop .steps) (loop .loop .progress) (loop .loop .inv .0) runs-on (c .take-slot-step .result) (c .take-slot-step .ensures) few
 
   after : progressAfter (loop .loop .progress) (c .take-slot-step .result) ≡ progressOf (run (scene loop) (slot loop) (flags loop) (suc (loop .loop .steps)))
   after =
-      progress-after (scene loop) (slot loop) (flags loop) (low loop) (entered loop .pre .1)
+      progress-after (scene loop) (slot loop) (flags loop) (ip-low loop) (entered loop .pre .1)
       (loop .loop .steps) (loop .loop .progress) (loop .loop .inv .0) runs-on (c .take-slot-step .result) (c .take-slot-step .ensures)
 
   room : 2 * loop .loop .progress .writes + 2 * length (wroteBy (c .take-slot-step .result .effect)) ≤ length (loop .loop .writes)
   room =
-      store-room (scene loop) (slot loop) (flags loop) (low loop) (entered loop .pre .1)
+      store-room (scene loop) (slot loop) (flags loop) (ip-low loop) (entered loop .pre .1)
       (loop .loop .steps) (loop .loop .progress) (loop .loop .inv .0) runs-on (c .take-slot-step .result) (c .take-slot-step .ensures)
       (now (entered loop .args .writes)) (loop .loop .writes) (entered loop .pre .2) (loop .loop .inv .1)
 
   stored : sets (loop .loop .writes) (2 * loop .loop .progress .writes) (entriesOf (wroteBy (c .take-slot-step .result .effect)))
       ≡ writtenInto (now (entered loop .args .writes)) (run (scene loop) (slot loop) (flags loop) (suc (loop .loop .steps)) .writes)
   stored =
-      store-is (scene loop) (slot loop) (flags loop) (low loop) (entered loop .pre .1)
+      store-is (scene loop) (slot loop) (flags loop) (ip-low loop) (entered loop .pre .1)
       (loop .loop .steps) (loop .loop .progress) (loop .loop .inv .0) runs-on (c .take-slot-step .result) (c .take-slot-step .ensures)
       (now (entered loop .args .writes)) (loop .loop .writes) (entered loop .pre .2) (loop .loop .inv .1)
 
@@ -192,7 +192,7 @@ returns-3 c =
     let t = slot-step-stopped c in
     let l = loop t in
     ended l
-    (run-stopped (scene l) (slot l) (flags l) (low l) (entered l .pre .1)
+    (run-stopped (scene l) (slot l) (flags l) (ip-low l) (entered l .pre .1)
     (l .loop .steps) (l .loop .progress) (l .loop .inv .0) (runs-on t) (t .take-slot-step .result) (t .take-slot-step .ensures)
     (sym (c .before .fetched .ensures) ∙ c .if3 .taken) (omega (arith, l .before .before .code-size .ensures .answered)))
 

@@ -16,7 +16,9 @@ returns c =
     let start = slot .before .before in
     let left = leftOf (now (start .args .clocks)) (start .args .last .place) in
     let fits : left % 2 ^ 64 ≡ left = omega (arith, start .pre) in
-    simp (ending .ending-of .ensures, c .before .before .flags-word-0 .ensures .answered, c .before .flags-word-1 .ensures .answered, c .clocks-left .ensures ∙ fits)
+    let word-0 = c .before .before .flags-word-0 in
+    let word-1 = c .before .flags-word-1 in
+    simp (ending .ending-of .ensures, word-0 .ensures .answered, word-1 .ensures .answered, c .clocks-left .ensures ∙ fits)
 
 pub told-spec : {M : Type 1} → statement M
 told-spec =
