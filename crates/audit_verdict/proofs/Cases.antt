@@ -4,7 +4,7 @@ use mathlib.Core.Path.{_≡_, refl}
 use mathlib.Core.Logic.{_⊎_, inl, inr}
 use mathlib.Core.Bool.{Bool, true, false, _&&_}
 use native.Mathlib.Omega.{arith}
-use Rattle.isa.proofs.Tests.{both-left, both-right}
+use Rattle.families.proofs.Tests.{both-left, both-right}
 
 -- from two constructors that were shown equal
 pub never : {A : Type 0} → _≡_ {A = ℕ} 0 1 → A

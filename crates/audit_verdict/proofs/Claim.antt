@@ -7,7 +7,7 @@ use mathlib.Core.List.{List}
 use native.Mathlib.Omega.{arith}
 use lib.ListN.{length, getD}
 use Rattle.families.specs.Family.{codeSize, pausesMemory}
-use Rattle.isa.proofs.Tests.{both-left, cond-elim}
+use Rattle.families.proofs.Tests.{both-left, cond-elim}
 use Rattle.log.specs.Log.{Log}
 use Rattle.log.proofs.ValidLaws.{valid-row-start}
 use Rattle.machine_state.specs.Slot.{slotOf}

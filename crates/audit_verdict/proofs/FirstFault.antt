@@ -16,7 +16,7 @@ use Rattle.isa.specs.declared.instructions.Instruction.{Instruction}
 use Rattle.isa.specs.declared.reader.Decoded.{Decoded}
 use Rattle.isa_fetch.specs.Fetch.{fetchTests, fetchRefusal}
 use Rattle.isa_fetch.proofs.Numbers.{fetch-numbered}
-use Rattle.isa.proofs.Tests.{cond-elim}
+use Rattle.families.proofs.Tests.{cond-elim}
 use Rattle.machine_actions.specs.Action.{actionOf, mergeOf}
 use Rattle.machine_actions.specs.declared.actions.Action.{Action}
 use Rattle.machine_actions.specs.declared.actions.Part.{Part}

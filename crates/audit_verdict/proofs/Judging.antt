@@ -5,7 +5,7 @@ use mathlib.Core.Bool.{Bool, true, false, _&&_}
 use mathlib.Core.List.{List}
 use Rattle.families.specs.Family.{pausesMemory}
 use Rattle.isa.specs.declared.addresses.MmioAddress.{MmioAddress}
-use Rattle.isa.proofs.Tests.{cond-elim}
+use Rattle.families.proofs.Tests.{cond-elim}
 use Rattle.machine_actions.specs.Action.{mergeOf}
 use Rattle.machine_slot.specs.SlotStep.{modeAfter, ipAfter, addrAfter, effectOf}
 use Rattle.machine_actions.specs.declared.actions.Action.{Action}

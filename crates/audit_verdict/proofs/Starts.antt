@@ -8,7 +8,7 @@ use lib.Dec.{leb, lit<}
 use lib.ListN.{length, getD, replicate}
 use borrow.Author.Tests.{leb-true}
 use Rattle.families.specs.Family.{knownFamily, pausesMemory}
-use Rattle.isa.proofs.Tests.{both-left, both-right, bounds}
+use Rattle.families.proofs.Tests.{both-left, both-right, bounds}
 use Rattle.isa_fetch.proofs.FetchLaws.{same-fetch}
 use Rattle.isa_fetch.proofs.Places.{size-small}
 use Rattle.log.specs.Log.{Log, logOf}

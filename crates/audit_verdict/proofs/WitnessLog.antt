@@ -11,7 +11,7 @@ use Rattle.families.specs.Family.{codeSize}
 use Rattle.isa.specs.Opcode.{sizeOf}
 use Rattle.isa.specs.Writer.{opcodeOf}
 use Rattle.isa.specs.declared.instructions.Instruction.{Instruction}
-use Rattle.isa.proofs.Tests.{both-left, both-right}
+use Rattle.families.proofs.Tests.{both-left, both-right}
 use Rattle.isa_fetch.proofs.Places.{size-small, fetch-lies}
 use Rattle.log.specs.Rows.{rowClocks, rowKnown, rowValues, logOfRows}
 use Rattle.log.specs.Validity.{rowsInRange, validLog}

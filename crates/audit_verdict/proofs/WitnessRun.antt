@@ -7,7 +7,7 @@ use native.Mathlib.Omega.{arith}
 use lib.Dec.{ltb, lit<}
 use lib.ListN.{length, getD, drop, length-map, length-drop, length-append}
 use borrow.Author.Tests.{ltb-true}
-use Rattle.isa.proofs.Tests.{both-left, both-right}
+use Rattle.families.proofs.Tests.{both-left, both-right}
 use Rattle.log.specs.Log.{Log}
 use Rattle.log.specs.Rows.{rowClocks, rowKnown, rowValues, logOfRows}
 use Rattle.log.specs.declared.place.Place.{Place}

@@ -118,8 +118,8 @@ module _ (script : Script) where
       abbrev pub effect : Effect
       effect = nextEffect script witnessFrom
 
-      abbrev pub after : Run
-      after = runAfter script witnessFrom
+      abbrev pub afterNext : Run
+      afterNext = runAfter script witnessFrom
 
     -- these two are starts, and write differently at the place
     abbrev pub Differ : ℕ → SlotName → State → State → Type 0
@@ -141,16 +141,16 @@ module _ (script : Script) where
           × (Differ place name (withData name s 0) (withData name s (secondData (faultNumber Fault.HalfData))))
       Sees Fault.Outside = (address : ℕ) × (word : ℕ) × (effect start ≡ Effect.Wrote (record { 0 = address }) word) × (listedIn ranges address ≡ false)
       -- 7: it waits with the log used up; that no log releases it is demand 3's
-      Sees Fault.Unreleased = InWait name log (after start)
-      Sees Fault.Paused = (slotOf (after start .state) name .mode ≡ Mode.Idle) × (slotOf (after start .state) name .ip .0 ≡ place)
-          × (pausedOf (script .family) (after start .state .flags) ≡ true)
+      Sees Fault.Unreleased = InWait name log (afterNext start)
+      Sees Fault.Paused = (slotOf (afterNext start .state) name .mode ≡ Mode.Idle) × (slotOf (afterNext start .state) name .ip .0 ≡ place)
+          × (pausedOf (script .family) (afterNext start .state .flags) ≡ true)
       -- 9 is no fault of a script
       Sees Fault.Input = ⊥
 
     -- the next step shows the verdict: of a pass it is exit's, with the reported numbers
     abbrev pub ShowsVerdict : List ℕ → {name : SlotName} {s : State} → Start script name s → Verdict → Type 0
     ShowsVerdict ranges {name} start (Verdict.Pass place count writes waitClocks) =
-        (suc steps ≡ count) × (Exact script name (place .0) count writes waitClocks (after start))
+        (suc steps ≡ count) × (Exact script name (place .0) count writes waitClocks (afterNext start))
     ShowsVerdict ranges start (Verdict.Fault fault place) = Sees ranges start (place .0) fault
 
     -- where the steps bring a start, with so many writes made

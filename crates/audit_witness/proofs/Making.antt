@@ -11,7 +11,7 @@ use types.Run.{OneOf}
 use Rattle.families.specs.Family.{codeSize}
 use Rattle.isa.specs.declared.instructions.Instruction.{Instruction}
 use Rattle.isa.specs.declared.reader.Decoded.{Decoded}
-use Rattle.isa.proofs.Tests.{both-left}
+use Rattle.families.proofs.Tests.{both-left}
 use Rattle.refusals.specs.declared.refusals.Unreadable.{Unreadable}
 use Rattle.isa_fetch.proofs.Places.{size-small}
 use Rattle.log.specs.Log.{Log}

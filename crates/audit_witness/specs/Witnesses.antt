@@ -60,9 +60,9 @@ module _ (script : Script) (ranges : List ℕ) (lent : Log) where
       0)
 
   -- the columns after the answer: the log and then as lent, and after a refusal as lent
-  abbrev pub lentAfter : WitnessAnswer → Log
-  lentAfter (WitnessAnswer.Shown told) = rowsInto lent rows
-  lentAfter (WitnessAnswer.Refused why) = lent
+  abbrev pub columnsAfter : WitnessAnswer → Log
+  columnsAfter (WitnessAnswer.Shown told) = rowsInto lent rows
+  columnsAfter (WitnessAnswer.Refused why) = lent
 
   -- of the verdict all holds that the auditor promises, and the first entries of the columns show it, from every start
   abbrev pub ShowsIt : Log → WitnessAnswer → Type 0
@@ -74,7 +74,7 @@ module _ (script : Script) (ranges : List ℕ) (lent : Log) where
   pub record Witnesses (new : Log) (answer : WitnessAnswer) : Type 0 where
     pub answered : answer ≡ witnessOf
     pub numbered : witnessNumber answer ≡ witnessRefusal
-    pub columns : new ≡ lentAfter answer
+    pub columns : new ≡ columnsAfter answer
     pub shows : ShowsIt new answer
     -- of the definition, and so of every answer
     pub worked : WorkedLogs

@@ -1,13 +1,12 @@
 -- Each fact of a family is its column of the table. Assumes nothing.
-use Prim.Native.Nat.{ℕ, _≤_, _<_}
+use Prim.Native.Nat.{ℕ}
 use mathlib.Core.Path.{_≡_, refl, _∙_}
 use mathlib.Core.Bool.{Bool, true, false}
-use native.Mathlib.Decide.{decLt}
-use native.Mathlib.Nat.{lt-of-not-le}
 use native.Mathlib.Omega.{arith}
 use lib.Dec.{eqb}
-use borrow.Author.Tests.{eqb-true, eqb-false, le-leb, lt-leb}
-use Rattle.families.specs.Family.{byFamily, codeSize, slotCount, unknownHangs, pausesMemory, highestEntry, within, FamilyRow, rowOf, Tells}
+use borrow.Author.Tests.{eqb-true, eqb-false}
+use Rattle.families.specs.Family.{byFamily, codeSize, slotCount, unknownHangs, pausesMemory, highestEntry, FamilyRow, rowOf, Tells}
+use Rattle.families.proofs.Tests.{outside}
 
 -- what holds of families 1 to 4, and of a number that names none, holds of every number
 each : (P : ℕ → Type 0) → P 1 → P 2 → P 3 → P 4
@@ -32,16 +31,6 @@ slots = each (λ f. slotCount f ≡ rowOf f .slots) refl refl refl refl (λ f a 
 pub hangs : (f : ℕ) → unknownHangs f ≡ rowOf f .hangs
 unfolding rowOf
 hangs = each (λ f. unknownHangs f ≡ rowOf f .hangs) refl refl refl refl (λ f a b c d. simp (a, b, c, d))
-
-outside : (low n high : ℕ) → (low ≤ n → n ≤ high → ⊥) → within low n high ≡ false
-outside low n high out =
-    elim (decLt n low) as (λ _. within low n high ≡ false) [
-      | yes l ↦ simp (lt-leb low n l)
-      | no l ↦
-          let in-low : low ≤ n = omega arith in
-          let above : high < n = lt-of-not-le (out in-low) in
-          simp (le-leb low n in-low, lt-leb n high above)
-    ]
 
 pub pauses : (f : ℕ) → pausesMemory f ≡ rowOf f .pauses
 unfolding rowOf

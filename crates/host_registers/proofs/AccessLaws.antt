@@ -4,7 +4,7 @@ use native.Mathlib.Omega.{arith}
 use mathlib.Core.Path.{_≡_, refl, sym, ap, subst, _∙_}
 use mathlib.Core.Bool.{Bool, true, false, cond, not, _&&_, _||_}
 use Rattle.families.specs.Family.{knownFamily}
-use Rattle.isa.proofs.Tests.{cond-elim}
+use Rattle.families.proofs.Tests.{cond-elim}
 use Rattle.isa.specs.declared.addresses.CodeAddress.{CodeAddress}
 use Rattle.isa.specs.declared.addresses.MmioAddress.{MmioAddress}
 use Rattle.machine_state.specs.Slot.{slotOf, withSlot}

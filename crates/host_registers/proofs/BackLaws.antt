@@ -8,7 +8,7 @@ use lib.Dec.{eqb}
 use lib.ListN.{length, getD, take, drop}
 use lib.Seq.{sets, sets-eq, getD-append-add, length-take-le}
 use borrow.Author.Tests.{eqb-true, eqb-false}
-use Rattle.isa.proofs.Tests.{cond-elim}
+use Rattle.families.proofs.Tests.{cond-elim}
 use Rattle.isa.specs.Writer.{leBytes}
 use Rattle.machine_flags.specs.Flags.{flagsWord0, flagsWord1, flagsFromWords}
 use Rattle.machine_flags.specs.declared.flags.Flags.{Flags}

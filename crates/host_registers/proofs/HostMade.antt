@@ -10,7 +10,7 @@ use lib.ListN.{getD, set, replicate, length-replicate}
 use lib.Seq.{sets, length-sets}
 use borrow.Author.Tests.{eqb-true}
 use Rattle.families.specs.Family.{byFamily, knownFamily, highestEntry}
-use Rattle.isa.proofs.Tests.{cond-elim, by-family-elim}
+use Rattle.families.proofs.Tests.{cond-elim, by-family-elim}
 use Rattle.isa.specs.Writer.{leBytes}
 use Rattle.isa.specs.declared.addresses.MmioAddress.{MmioAddress}
 use Rattle.machine_flags.specs.declared.flags.Flags.{Flags}

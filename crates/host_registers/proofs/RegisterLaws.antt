@@ -6,7 +6,7 @@ use native.Mathlib.Omega.{arith}
 use lib.Dec.{ltb, eqb}
 use borrow.Author.Tests.{ltb-true, eqb-true}
 use Rattle.families.specs.Family.{byFamily, codeSize, within}
-use Rattle.isa.proofs.Tests.{cond-elim, inside, outside, both-left, both-right}
+use Rattle.families.proofs.Tests.{cond-elim, inside, outside, both-left, both-right}
 use Rattle.isa.specs.declared.addresses.MmioAddress.{MmioAddress}
 use Rattle.machine_state.specs.Slot.{hasSlot}
 use Rattle.machine_state.specs.declared.slots.SlotName.{SlotName}

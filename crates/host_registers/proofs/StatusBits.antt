@@ -7,7 +7,7 @@ use native.Mathlib.Omega.{arith}
 use lib.Dec.{eqb}
 use borrow.Author.Tests.{eqb-true, eq-eqb}
 use Rattle.families.specs.Family.{unknownHangs}
-use Rattle.isa.proofs.Tests.{both-left, both-right}
+use Rattle.families.proofs.Tests.{both-left, both-right}
 use Rattle.words.specs.Bits.{bitOf}
 use Rattle.machine_state.specs.Slot.{hasSlot, isIdle}
 use Rattle.machine_state.specs.declared.slots.Mode.{Mode}

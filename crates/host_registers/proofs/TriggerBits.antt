@@ -2,7 +2,7 @@
 use Prim.Native.Nat.{ℕ, _+_, _*_, _/_, _%_, _≤_}
 use mathlib.Core.Path.{_≡_, refl, ap}
 use mathlib.Core.Logic.{_⊎_, inl, inr}
-use mathlib.Core.Bool.{Bool, true, false, cond, _&&_}
+use mathlib.Core.Bool.{Bool, true, false, cond, and-false}
 use native.Mathlib.Omega.{arith}
 use borrow.Author.Tests.{eq-eqb, ne-eqb}
 use Rattle.words.specs.Bits.{bitOf}
@@ -46,11 +46,7 @@ module _ (s : State) (word : ℕ) where
   names-a (inl four) = simp (one-slot (s .family) four)
   names-a (inr h) =
       let bit : word / 2 % 2 ≡ 1 = h in
-      simp (bit, neither (hasSlot (s .family) SlotName.B))
-    where
-      neither : (b : Bool) → (b && false) ≡ false
-      neither true = refl
-      neither false = refl
+      simp (bit, and-false (hasSlot (s .family) SlotName.B))
 
   names-b : 1 ≤ s .family → s .family ≤ 3 → bitOf word 1 ≡ 0 → slotNamed (s .family) word ≡ SlotName.B
   names-b l k h = let bit : word / 2 % 2 ≡ 0 = h in simp (two-slots (s .family) l k, bit)

@@ -6,7 +6,7 @@ use lib.Pow.{pow-mono, shl-exact}
 use native.Mathlib.Nat.{mul-le-mul}
 use native.Mathlib.Omega.{arith}
 use Rattle.isa.specs.Wait.{waitFits, waitClocks}
-use Rattle.isa.proofs.Tests.{cond-elim}
+use Rattle.families.proofs.Tests.{cond-elim}
 use Rattle.isa.proofs.Writing.{wait-fits}
 
 module _ (length shift : ℕ) (fits : waitFits length shift ≡ true) where

@@ -16,7 +16,7 @@ use Rattle.isa.specs.declared.instructions.Instruction.{Instruction}
 use Rattle.isa.specs.declared.opcodes.Opcode.{Opcode}
 use Rattle.isa.specs.declared.reader.Decoded.{Decoded}
 use Rattle.isa.specs.declared.encoding.Encoded.{Encoded}
-use Rattle.isa.proofs.Tests.{cond-elim, bounds}
+use Rattle.families.proofs.Tests.{cond-elim, bounds}
 use Rattle.isa.proofs.Bytes.{respell, reread}
 use Rattle.isa.proofs.Opcode as op
 use Rattle.isa.proofs.Reading.{all-there}

@@ -1,4 +1,3 @@
-pub mod Tests
 pub mod Opcode
 pub mod Bytes
 pub mod Reading

@@ -6,7 +6,7 @@ use native.Mathlib.Omega.{arith}
 use borrow.Author.Tests.{ne-eqb}
 use Rattle.isa.specs.Opcode.{opcodeAt, laterOnly}
 use Rattle.isa.specs.declared.opcodes.Opcode.{Opcode}
-use Rattle.isa.proofs.Tests.{inside, outside}
+use Rattle.families.proofs.Tests.{inside, outside}
 
 module _ (f b : ℕ) where
   pub wait : b ≤ 0x3f → Opcode.Wait ≡ opcodeAt f b

@@ -14,7 +14,7 @@ use Rattle.isa.specs.declared.opcodes.Opcode.{Opcode}
 use Rattle.isa.specs.declared.reader.Decoded.{Decoded}
 use Rattle.refusals.specs.declared.refusals.Unreadable.{Unreadable}
 use Rattle.isa.proofs.Bytes.{two-bytes, four}
-use Rattle.isa.proofs.Tests.{cond-elim}
+use Rattle.families.proofs.Tests.{cond-elim}
 
 module _ (f : ℕ) (bs : List ℕ) where
   pub no-family : knownFamily f ≡ false → Decoded.Refused Unreadable.Family ≡ decodeOf f bs

@@ -11,7 +11,7 @@ use Rattle.isa.specs.Writer.{opcodeOf, onFamily, operandsFit, spell, enc
 use Rattle.isa.specs.declared.instructions.Instruction.{Instruction}
 use Rattle.isa.specs.declared.encoding.Encoded.{Encoded}
 use Rattle.refusals.specs.declared.refusals.Unwritable.{Unwritable}
-use Rattle.isa.proofs.Tests.{both-left, both-right, cond-elim}
+use Rattle.families.proofs.Tests.{both-left, both-right, cond-elim}
 
 pub wait-fits : (length shift : ℕ) → waitFits length shift ≡ true → (length ≤ 3) × (shift ≤ 15)
 wait-fits length shift e =

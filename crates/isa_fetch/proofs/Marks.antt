@@ -13,7 +13,7 @@ use Rattle.isa.specs.Reader.{readAs}
 use Rattle.isa.specs.declared.opcodes.Opcode.{Opcode}
 use Rattle.isa.specs.declared.reader.Decoded.{Decoded}
 use Rattle.refusals.specs.declared.refusals.Unreadable.{Unreadable}
-use Rattle.isa.proofs.Tests.{both-left, both-right}
+use Rattle.families.proofs.Tests.{both-left, both-right}
 use Rattle.isa_fetch.specs.Fetch.{allMarked, checkMarks}
 
 -- a byte that has a mark lies within the marks

@@ -15,7 +15,7 @@ use Rattle.isa.specs.Reader.{readAs, decodeOf, decodedNumber}
 use Rattle.isa.specs.declared.opcodes.Opcode.{Opcode}
 use Rattle.isa.specs.declared.reader.Decoded.{Decoded}
 use Rattle.isa.proofs.Reading.{read-number, long-known, short, all-there}
-use Rattle.isa.proofs.Tests.{cond-elim, by-no-family}
+use Rattle.families.proofs.Tests.{cond-elim, by-no-family}
 use Rattle.isa_fetch.specs.Fetch.{codeRam, allMarked, checkMarks, fetchOf, fetchRefusal}
 use Rattle.isa_fetch.proofs.Marks.{read-checked}
 use Rattle.isa_fetch.proofs.Places.{ram-most}

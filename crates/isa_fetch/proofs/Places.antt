@@ -19,7 +19,7 @@ use Rattle.isa.specs.declared.reader.Decoded.{Decoded}
 use Rattle.refusals.specs.declared.refusals.Unreadable.{Unreadable}
 use Rattle.isa.specs.declared.encoding.Encoded.{Encoded}
 use Rattle.isa.proofs.Codec.{one-spelling}
-use Rattle.isa.proofs.Tests.{cond-elim, by-family-elim}
+use Rattle.families.proofs.Tests.{cond-elim, by-family-elim}
 use Rattle.isa_fetch.specs.Fetch.{allMarked, checkMarks, codeRam, fetchOf, Inside}
 
 take-own : (s : ℕ) (xs : List ℕ) → take (length (take s xs)) xs ≡ take s xs

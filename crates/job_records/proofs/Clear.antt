@@ -8,7 +8,7 @@ use lib.Dec.{ltb}
 use lib.ListN.{length}
 use borrow.Author.Tests.{ltb-true, ltb-false, leb-false, eq-eqb, not-false}
 use Rattle.machine_execution.specs.Execution.{someSlotExecutes}
-use Rattle.isa.proofs.Tests.{both-left, both-right}
+use Rattle.families.proofs.Tests.{both-left, both-right}
 use Rattle.machine_state.specs.declared.state.State.{State}
 use Rattle.job_records.specs.Records.{kindOf}
 use Rattle.job_records.specs.Refusals.{isCutShort, isTooMany, isBadRange, isBadRow, endsIdle, listing, refusalOf}

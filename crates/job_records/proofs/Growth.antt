@@ -9,7 +9,7 @@ use lib.Dec.{leb, ltb, eqb}
 use lib.ListN.{length, take, set, length-set, length-replicate}
 use lib.Seq.{take-suc-set, length-take-le}
 use borrow.Author.Tests.{eqb-true, eqb-false, eq-eqb, ne-eqb, le-leb, ltb-false, not-false}
-use Rattle.isa.proofs.Tests.{cond-elim, both-left, both-right}
+use Rattle.families.proofs.Tests.{cond-elim, both-left, both-right}
 use Rattle.host_registers.proofs.HostMade.{HostMade, fresh-made, write-made}
 use Rattle.log.specs.Validity.{clocksInRange, rowsInRange, validLog}
 use Rattle.script.specs.Input.{rangesPaired}

@@ -8,7 +8,7 @@ use lib.ListN.{length, getD, take}
 use lib.Seq.{length-take-le}
 use borrow.Author.Tests.{le-leb, eq-eqb}
 use Rattle.families.specs.Family.{knownFamily, codeSize, highestEntry}
-use Rattle.isa.proofs.Tests.{both-left}
+use Rattle.families.proofs.Tests.{both-left}
 use Rattle.isa_fetch.proofs.Places.{size-small}
 use Rattle.script.specs.Input.{marksPlain, scriptFits, rangesFit}
 use Rattle.machine_state.specs.declared.state.State.{State}

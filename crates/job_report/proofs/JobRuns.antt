@@ -9,7 +9,7 @@ use lib.Seq.{getD-take}
 use Rattle.families.specs.Family.{codeSize}
 use borrow.Author.Tests.{eq-eqb}
 use Rattle.isa.specs.declared.addresses.CodeAddress.{CodeAddress}
-use Rattle.isa.proofs.Tests.{both-left}
+use Rattle.families.proofs.Tests.{both-left}
 use Rattle.isa_fetch.proofs.FetchLaws.{same-fetch}
 use Rattle.machine_state.specs.Slot.{slotOf, withSlot}
 use Rattle.machine_state.specs.declared.slots.Mode.{Mode}

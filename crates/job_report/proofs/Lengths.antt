@@ -6,7 +6,7 @@ use native.Mathlib.Omega.{arith}
 use lib.Count.{onesIn}
 use lib.Dec.{eqb}
 use lib.ListN.{length, length-append, length-take}
-use Rattle.isa.proofs.Tests.{cond-elim}
+use Rattle.families.proofs.Tests.{cond-elim}
 use Rattle.log.specs.Coverage.{readingCount, lowestZero, firstMissing}
 use Rattle.log.specs.declared.place.Place.{Place}
 use Rattle.refusals.specs.Number.{faultNumber}

@@ -4,7 +4,7 @@ use mathlib.Core.Path.{_≡_}
 use mathlib.Core.Bool.{true}
 use native.Mathlib.Omega.{arith}
 use lib.ListN.{length}
-use Rattle.isa.proofs.Tests.{both-left}
+use Rattle.families.proofs.Tests.{both-left}
 use Rattle.script.specs.Input.{scriptFits, rangesFit}
 use Rattle.script.proofs.Scripts.{fits-script}
 use Rattle.run.specs.Replay.{fullSteps}

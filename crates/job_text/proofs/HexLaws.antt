@@ -1,6 +1,5 @@
 -- Laws of hex words: what the digits are read as, how they are made from the last to the first, and how many there are.
 use mathlib.Core.Path.{_≡_, refl, ap, sym, subst, _∙_}
-use mathlib.Core.Bool.{Bool, true, false, cond}
 use mathlib.Core.List.{List, [], _∷_, _++_, append-assoc}
 use Prim.Native.Nat.{ℕ, zero, suc, _+_, _-_, _*_, _/_, _%_, _^_, _≤_, _<_}
 use native.Mathlib.Nat.{pow-suc, div-lt-iff-lt-mul}
@@ -8,6 +7,7 @@ use native.Mathlib.Omega.{arith}
 use lib.Dec.{ltb, lit<}
 use lib.ListN.{length, drop, set, length-append}
 use borrow.Author.Tests.{lt-ltb, le-ltb, ltb-true, ltb-false}
+use Rattle.families.proofs.Tests.{cond-elim}
 use Rattle.job_text.proofs.Backwards.{less, stored}
 use Rattle.job_text.specs.Digits.{hexDigit, hexIn, hexWord, hexValue, readHexOn}
 
@@ -22,13 +22,9 @@ letter c h = rw (le-ltb c 58 h)
 -- a digit's value is the one that it was made of
 digit-value : (n : ℕ) → hexValue (hexDigit n) ≡ n % 16
 digit-value n =
-    pick (λ (c : ℕ). hexValue c ≡ n % 16) (ltb (n % 16) 10)
+    cond-elim (λ (c : ℕ). hexValue c ≡ n % 16) (ltb (n % 16) 10)
     (λ t. let l = ltb-true (n % 16) 10 t in figure (48 + n % 16) (omega arith) ∙ omega arith)
     (λ t. let l = ltb-false (n % 16) 10 t in letter (87 + n % 16) (omega arith) ∙ omega arith)
-  where
-    pick : (P : ℕ → Type 0) (c : Bool) {a b : ℕ} → (c ≡ true → P a) → (c ≡ false → P b) → P (cond c a b)
-    pick P true f g = f refl
-    pick P false f g = g refl
 
 read-end : (before : ℕ) (cs : List ℕ) (c : ℕ) → readHexOn before (cs ++ (c ∷ [])) ≡ 16 * readHexOn before cs + hexValue c
 read-end before [] c = refl

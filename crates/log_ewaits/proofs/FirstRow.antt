@@ -1,11 +1,12 @@
 -- An ewait is released at the first row that has the reading. Assumes nothing.
 use Prim.Native.Nat.{ℕ, zero, suc, _+_, _-_, _≤_, _<_}
 use mathlib.Core.Path.{_≡_, refl, sym, subst, _∙_}
-use mathlib.Core.Bool.{Bool, true, false, cond}
+use mathlib.Core.Bool.{Bool, true, false}
 use native.Mathlib.Decide.{decLt}
 use native.Mathlib.Omega.{arith}
 use lib.ListN.{length, getD}
 use borrow.Author.Tests.{lt-ltb, eq-eqb}
+use Rattle.families.proofs.Tests.{cond-elim}
 use Rattle.log.specs.Log.{Log}
 use Rattle.log.specs.declared.place.Place.{Place}
 use Rattle.log_ewaits.specs.Ewait.{hasReading, passing, searchIn, searchFrom, in64, ewaitOf, ReadsAsked, AtFirst, FirstFrom}
@@ -64,12 +65,8 @@ module _ (log : Log) (event value : ℕ) where
   unfolding searchIn
   search-first zero row used e = λ other l m _. omega arith
   search-first (suc n) row used e =
-      pick (FirstFrom log event value row used) _ (λ _. here row used (omega arith))
+      cond-elim (FirstFrom log event value row used) _ (λ _. here row used (omega arith))
       (λ t. onward row used _ (missing row t) (searchIn n log event value (row + 1) 0) (search-first n (row + 1) 0 (omega arith)))
-    where
-      pick : (P : Released → Type 0) (c : Bool) {a b : Released} → (c ≡ true → P a) → (c ≡ false → P b) → P (cond c a b)
-      pick P true f g = f refl
-      pick P false f g = g refl
 
   same-first : (row used : ℕ) (r : Released) → FirstFrom log event value row used r → FirstFrom log event value row used (in64 r)
   same-first row used (Released.At p n) k = record {

@@ -1,13 +1,14 @@
 -- A wait, row by row; what it spends and where it ends. Assumes nothing.
 use Prim.Native.Nat.{ℕ, zero, suc, _+_, _-_, _<_, _≤_}
 use mathlib.Core.Path.{_≡_, refl}
-use mathlib.Core.Bool.{Bool, true, false, cond}
+use mathlib.Core.Bool.{true}
 use mathlib.Core.List.{List}
 use native.Mathlib.Decide.{decLt}
 use native.Mathlib.Omega.{arith}
 use lib.ListN.{length, getD}
 use lib.Dec.{ltb}
 use borrow.Author.Tests.{lt-ltb, le-ltb, ltb-true, ltb-false}
+use Rattle.families.proofs.Tests.{cond-elim}
 use Rattle.log_waits.specs.Left.{leftIn, leftFrom, leftOf}
 use Rattle.log.specs.Log.{Log}
 use Rattle.log.specs.Validity.{validLog, validPlace}
@@ -23,12 +24,8 @@ unfolding waitIn leftIn
 cut-in zero clocks row used n = omega arith
 cut-in (suc rows) clocks row used n =
     let rest = getD clocks row 0 - used in
-    pick (λ (w : Waited). w .cut ≡ n - (rest + leftIn rows clocks (row + 1) 0)) (ltb n rest) (λ t. omega (arith, ltb-true n rest t))
+    cond-elim (λ (w : Waited). w .cut ≡ n - (rest + leftIn rows clocks (row + 1) 0)) (ltb n rest) (λ t. omega (arith, ltb-true n rest t))
     (λ t. omega (arith, ltb-false n rest t, cut-in rows clocks (row + 1) 0 (n - rest)))
-  where
-    pick : (P : Waited → Type 0) (c : Bool) {a b : Waited} → (c ≡ true → P a) → (c ≡ false → P b) → P (cond c a b)
-    pick P true f g = f refl
-    pick P false f g = g refl
 
 pub wait-cut : (clocks : List ℕ) (p : Place) (n : ℕ) → waitOf clocks p n .cut ≡ n - leftOf clocks p
 wait-cut clocks p n = cut-in (length clocks - p .row) clocks (p .row) (p .used) n

@@ -1,7 +1,7 @@
 -- The slot that is taken for the executing one does execute, where one does. Assumes nothing.
 use mathlib.Core.Path.{_≡_}
 use mathlib.Core.Bool.{true}
-use Rattle.isa.proofs.Tests.{cond-elim}
+use Rattle.families.proofs.Tests.{cond-elim}
 use Rattle.machine_state.specs.declared.slots.SlotName.{SlotName}
 use Rattle.machine_state.specs.declared.state.State.{State}
 use Rattle.machine_execution.specs.Execution.{executes, someSlotExecutes, executingSlot}

@@ -6,7 +6,7 @@ use native.Mathlib.Omega.{arith}
 use lib.Dec.{leb}
 use borrow.Author.Tests.{leb-true, le-leb}
 use Rattle.families.specs.Family.{knownFamily, slotCount}
-use Rattle.isa.proofs.Tests.{by-family-elim, by-no-family}
+use Rattle.families.proofs.Tests.{by-family-elim, by-no-family}
 use Rattle.machine_state.specs.Slot.{hasSlot, slotOf, withSlot}
 use Rattle.machine_flags.specs.declared.flags.Flags.{Flags}
 use Rattle.machine_state.specs.declared.slots.Slot.{Slot}

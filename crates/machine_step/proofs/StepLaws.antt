@@ -7,7 +7,7 @@ use native.Mathlib.Omega.{arith}
 use borrow.Author.Tests.{lt-ltb}
 use Rattle.families.specs.Family.{knownFamily}
 use Rattle.isa.specs.declared.reader.Decoded.{Decoded}
-use Rattle.isa.proofs.Tests.{both-right, cond-elim}
+use Rattle.families.proofs.Tests.{both-right, cond-elim}
 use Rattle.refusals.specs.declared.refusals.Unreadable.{Unreadable}
 use Rattle.isa_fetch.specs.Fetch.{fetchOf, pastOpcode}
 use Rattle.isa_fetch.proofs.Places.{unknown-within}

@@ -6,7 +6,7 @@ use mathlib.Core.Bool.{Bool, true, false, _&&_, true≢false}
 use mathlib.Core.List.{List, []}
 use native.Mathlib.Omega.{arith}
 use Rattle.families.specs.Family.{knownFamily}
-use Rattle.isa.proofs.Tests.{both-left, cond-elim}
+use Rattle.families.proofs.Tests.{both-left, cond-elim}
 use Rattle.log.specs.Log.{Log}
 use Rattle.log.specs.Validity.{validLog, logStart, validPlace}
 use Rattle.log.proofs.ValidLaws.{valid-row-start}

@@ -5,7 +5,7 @@ use mathlib.Core.Bool.{true}
 use mathlib.Core.List.{List}
 use native.Mathlib.Nat.{zero-add, suc-add}
 use native.Mathlib.Omega.{arith}
-use Rattle.isa.proofs.Tests.{cond-elim}
+use Rattle.families.proofs.Tests.{cond-elim}
 use Rattle.log.specs.Validity.{validLog, logStart, validPlace}
 use Rattle.log.specs.declared.place.Place.{Place}
 use Rattle.log.proofs.ValidLaws.{valid-row-start}

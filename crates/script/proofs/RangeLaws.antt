@@ -11,7 +11,7 @@ use lib.Dec.{leb, ltb}
 use lib.ListN.{length, getD, drop, drop-of-length-le}
 use lib.Seq.{drop-cons}
 use Rattle.families.specs.Family.{within}
-use Rattle.isa.proofs.Tests.{cond-elim}
+use Rattle.families.proofs.Tests.{cond-elim}
 use Rattle.script.specs.Input.{listedIn, rangesPaired, marksPlain}
 
 next : (l : List ℕ) (i : ℕ) → i < length l → drop i l ≡ getD l i 0 ∷ drop (i + 1) l

@@ -11,7 +11,7 @@ use Rattle.isa.specs.Writer.{operandsFit}
 use Rattle.isa.specs.declared.instructions.Instruction.{Instruction}
 use Rattle.isa.specs.declared.reader.Decoded.{Decoded}
 use Rattle.isa.proofs.Clocks.{wait-most}
-use Rattle.isa.proofs.Tests.{both-left, both-right, by-family-elim}
+use Rattle.families.proofs.Tests.{both-left, both-right, by-family-elim}
 use Rattle.isa_fetch.proofs.Places.{fetch-inside, fetch-lies}
 use Rattle.machine_actions.specs.Action.{actionOf}
 use Rattle.machine_actions.specs.declared.actions.Action.{Action}

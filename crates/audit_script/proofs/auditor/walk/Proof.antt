@@ -9,7 +9,7 @@ use borrow.Author.Needs.{needs}
 use Rattle.families.specs.Family.{codeSize}
 use Rattle.isa.specs.declared.instructions.Instruction.{Instruction}
 use Rattle.isa.specs.declared.reader.Decoded.{Decoded}
-use Rattle.isa.proofs.Tests.{both-left}
+use Rattle.families.proofs.Tests.{both-left}
 use Rattle.refusals.specs.declared.refusals.Fault.{Fault}
 use Rattle.isa_fetch.specs.Fetch.{reasonOf}
 use Rattle.isa_fetch.proofs.Places.{size-small}

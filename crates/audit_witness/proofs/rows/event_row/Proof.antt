@@ -3,7 +3,7 @@ use mathlib.Core.Path.{refl}
 use native.Mathlib.Omega.{arith}
 use lib.Dec.{ltb}
 use borrow.Author.Tests.{ltb-true}
-use Rattle.isa.proofs.Tests.{both-left}
+use Rattle.families.proofs.Tests.{both-left}
 use Rattle.machine_flags.proofs.Shifts.{one-shl}
 use Rattle.audit_verdict.specs.Auditor.{canRelease}
 use Rattle.audit_verdict.proofs.WitnessLog.{row-mask}

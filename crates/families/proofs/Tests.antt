@@ -13,7 +13,7 @@ both-left a b e = and-eq-true-iff a b .0 e .0
 pub both-right : (a b : Bool) → (a && b) ≡ true → b ≡ true
 both-right a b e = and-eq-true-iff a b .0 e .1
 
-not-both : (a b : Bool) → (a ≡ true → b ≡ true → ⊥) → (a && b) ≡ false
+pub not-both : (a b : Bool) → (a ≡ true → b ≡ true → ⊥) → (a && b) ≡ false
 not-both true true h = absurd (h refl refl)
 not-both true false h = refl
 not-both false b h = refl
