@@ -1,19 +1,12 @@
 -- The flags, and whether memory is paused (01, "Steps and time" and "Host registers"; 004, "Flags").
-use Prim.Native.Nat.{ℕ, _+_, _*_, _/_, _%_, _^_, _≤_, _<_}
+use Prim.Native.Nat.{ℕ, _+_, _*_, _/_, _%_, _≤_, _<_}
 use mathlib.Core.Path.{_≡_}
 use mathlib.Core.Bool.{Bool, cond, _&&_}
-use lib.Bits.{bitAnd, bitOr, bitXor}
 use lib.Dec.{ltb, eqb}
 use Rattle.families.specs.Family.{pausesMemory}
-use Rattle.words.specs.Bits.{bitOf}
+use Rattle.words.specs.Bits.{bitOf, setBit, clearBit}
 use Rattle.machine_flags.specs.declared.flags.Change.{Change}
 use Rattle.machine_flags.specs.declared.flags.Flags.{Flags}
-
-abbrev pub setBit : ℕ → ℕ → ℕ
-setBit n word = bitOr word (2 ^ n)
-
-abbrev pub clearBit : ℕ → ℕ → ℕ
-clearBit n word = bitXor word (bitAnd word (2 ^ n))
 
 -- unset clears a flag's enable and keeps its value
 unfoldable pub enablesAfter : Change → ℕ → ℕ → ℕ

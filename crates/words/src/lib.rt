@@ -2,6 +2,7 @@
 ghost use mathlib.Core.Path.{_≡_};
 ghost use Prim.Native.Nat.{_+_, _*_};
 ghost use lib.ListN.{getD};
+ghost use Rattle.words.specs.Numbers.{wordAt};
 
 // The byte at a place, and 0 past the end.
 pub fn byte_at(bytes: &[u8], at: usize) -> u8
@@ -22,6 +23,19 @@ pub fn word(a: u8, b: u8, c: u8, d: u8) -> u32
     ensures { λ r. ⌜ r ≡ a + 256 * b + 65536 * c + 16777216 * d ⌝ }
 {
     a as u32 + 256 * (b as u32) + 65536 * (c as u32) + 16777216 * (d as u32)
+}
+
+// The number of the four bytes from a place on; those past the end count as 0.
+pub fn word_at(bytes: &[u8], at: usize) -> u32
+    ensures { λ r. ⌜ r ≡ wordAt (now (bytes .entry)) at ⌝ }
+{
+    if bytes.len() <= at {
+        return 0;
+    }
+    let b = byte_at(bytes, at + 1);
+    let c = byte_at(bytes, at + 2);
+    let d = byte_at(bytes, at + 3);
+    word(bytes[at], b, c, d)
 }
 
 // The number of two words, the lower first.

@@ -4,7 +4,7 @@ use native.Mathlib.Omega.{arith}
 use lib.Dec.{ltb}
 use borrow.Author.Tests.{ltb-true}
 use Rattle.families.proofs.Tests.{both-left}
-use Rattle.machine_flags.proofs.Shifts.{one-shl}
+use Rattle.words.proofs.BitLaws.{one-shl}
 use Rattle.audit_verdict.specs.Auditor.{canRelease}
 use Rattle.audit_verdict.proofs.WitnessLog.{row-mask}
 use Rattle.audit_witness.proofs.rows.event_row.Statement.{statement}

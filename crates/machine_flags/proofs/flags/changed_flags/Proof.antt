@@ -1,5 +1,5 @@
 -- Assumes nothing.
-use Rattle.machine_flags.proofs.Shifts.{one-shl}
+use Rattle.words.proofs.BitLaws.{one-shl}
 use Rattle.machine_flags.proofs.FlagLaws.{changes}
 use Rattle.machine_flags.specs.Flags.{valuesAfter, enablesAfter}
 use borrow.Author.Tests.{lt-ltb, le-ltb}
