@@ -1,7 +1,9 @@
 // From volts to a reading.
 use probe_floats::is_finite;
 ghost use mathlib.Core.Path.{_≡_};
-ghost use Rattle.probe_gates.specs.Reading.{GateReads, atLevels};
+ghost use mathlib.Core.Bool.{_&&_};
+ghost use lib.Ieee.{lt};
+ghost use Rattle.probe_gates.specs.Reading.{GateReads, IsBetween, atLevels};
 
 // Levels are in volts.
 pub enum Gate {
@@ -36,6 +38,23 @@ impl Gate {
             Reading::Missing
         }
     }
+
+    // Whether volts are strictly between the levels, which a dead gate does not have.
+    pub fn between(self, volts: f32) -> bool
+        ensures { λ r. ⌜ IsBetween self volts r ⌝ }
+    {
+        match self {
+            Gate::Normal { low, high } => inside(low, high, volts),
+            Gate::Inverted { low, high } => inside(low, high, volts),
+            Gate::Dead => false,
+        }
+    }
+}
+
+fn inside(low: f32, high: f32, volts: f32) -> bool
+    ensures { λ r. ⌜ r ≡ (lt low volts && lt volts high) ⌝ }
+{
+    low < volts && volts < high
 }
 
 // At or below low, at or above high, or between.
