@@ -32,6 +32,8 @@ pub enum Misreading {
     KnownReadingChanged,
     /// The log that shows a verdict reads every event as 0, whatever value is awaited.
     WitnessReadsZero,
+    /// An event whose capture is no reading keeps what the row's own masks say of it.
+    OwnMasksUnderNoReading,
 }
 
 /// Every misreading.
@@ -50,6 +52,7 @@ pub const ALL: &[Misreading] = &[
     Misreading::WaitMeasuredByLength,
     Misreading::KnownReadingChanged,
     Misreading::WitnessReadsZero,
+    Misreading::OwnMasksUnderNoReading,
 ];
 
 #[cfg(feature = "misreadings")]
@@ -70,6 +73,7 @@ impl Misreading {
             Misreading::WaitMeasuredByLength => "a wait measured by its length",
             Misreading::KnownReadingChanged => "a known reading changed",
             Misreading::WitnessReadsZero => "a witness reads every event as 0",
+            Misreading::OwnMasksUnderNoReading => "own masks kept where a capture is no reading",
         }
     }
 }

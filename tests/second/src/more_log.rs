@@ -6,12 +6,7 @@ use crate::machine::{Slot, Steps};
 use crate::misreadings::{in_force, Misreading};
 use crate::Refusal;
 
-/// The masks of a log's row: events with a reading, and their values.
-#[derive(Clone, Copy, Debug, PartialEq, Eq)]
-pub struct Masks {
-    pub known: u32,
-    pub values: u32,
-}
+pub use crate::log::Masks;
 
 /// When a wait or an ewait ended; the one that ended later is the greater one.
 #[derive(Clone, Copy, Debug, PartialEq, Eq, PartialOrd, Ord)]

@@ -31,6 +31,7 @@ pub enum Refusal {
     ClocksOutOfRange = 30,
     JobTooLong = 31,
     NoSlotExecuting = 32,
+    UnfitProbe = 33,
 }
 
 impl Refusal {

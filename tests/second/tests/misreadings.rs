@@ -96,6 +96,12 @@ const CASES: &[Case] = &[
         wrong: "Ok(None)",
     },
     Case {
+        shows: Misreading::HighLevelExcluded,
+        answer: || captured(2.0),
+        right: "row 0 known 1 first 0, end exit row 0 used 0",
+        wrong: "row 0 known 0 first 0, end log row 1 used 0",
+    },
+    Case {
         shows: Misreading::PokeOutsideRangeAtLast,
         answer: || verdict(2, ONE_POKE, &[0x10_1500, 0x10_1600]),
         right: "verdict 0 place 10",
@@ -150,6 +156,19 @@ const CASES: &[Case] = &[
         right: "Ok(None)",
         wrong: "Err(NotAtPlace(SlotState { ip: CodeAddress(3), addr: MmioAddress(0), data: 0, \
                 activity: Waiting }))",
+    },
+    // The row's own masks know every event, but only the one that was captured is kept.
+    Case {
+        shows: Misreading::OwnMasksUnderNoReading,
+        answer: || captured(1.5),
+        right: "row 0 known 0 first 0, end log row 1 used 0",
+        wrong: "row 0 known 1 first 0, end exit row 0 used 0",
+    },
+    Case {
+        shows: Misreading::OwnMasksUnderNoReading,
+        answer: || captured(f32::NAN),
+        right: "row 0 known 0 first 0, end log row 1 used 0",
+        wrong: "row 0 known 1 first 0, end exit row 0 used 0",
     },
 ];
 
@@ -341,6 +360,21 @@ fn shown(bytes: &[u8]) -> String {
         shows(&start, Slot::A, columns, &[], claim)
     });
     format!("{answer:?}")
+}
+
+/// Rows and end of a wait for event 1 to be 1 on a row that says so itself, with this raw value captured.
+fn captured(raw: f32) -> String {
+    let mut job = b"\x04\x02\x02\x00\x14\0\0\x5f\x01\x01\x7f\x02\x0c\x13\0\0\x03\0\0\0".to_vec();
+    // Levels 1 and 2, gain 1, offset 0.
+    job.extend(b"\x06\x01\x00\0\0\x80\x3f\0\0\0\x40\0\0\x80\x3f\0\0\0\0");
+    job.extend(b"\x05\x01");
+    job.extend(raw.to_le_bytes());
+    job.extend(b"\x01\x0a\0\0\0\0\0\0\0\xff\xff\xff\xff\xff\xff\xff\xff\x00");
+    let report = String::from_utf8(report(&job)).unwrap();
+    let told = report
+        .lines()
+        .filter(|line| line.starts_with("row") || line.starts_with("end"));
+    told.collect::<Vec<_>>().join(", ")
 }
 
 /// One test for all, since they share what is in force.

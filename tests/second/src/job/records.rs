@@ -1,8 +1,10 @@
 //! The record parser.
 
+use super::body::word;
+use super::captures::Captures;
 use crate::audit::MOST_RANGES;
 use crate::isa::MmioAddress;
-use crate::log::{clocks_fit, MOST_ROWS};
+use crate::log::{clocks_fit, Masks, MOST_ROWS};
 use crate::machine::{host_write, State};
 use crate::misreadings::{in_force, Misreading};
 use crate::Refusal;
@@ -15,11 +17,17 @@ const ROW: u8 = 1;
 const WRITE: u8 = 2;
 const RANGE: u8 = 3;
 const FAMILY: u8 = 4;
+const CAPTURE: u8 = 5;
+const GATE: u8 = 6;
 
+/// Number of kinds.
+const KINDS: usize = 7;
 /// Body length of each kind.
-const BODY: [usize; 5] = [0, 16, 8, 8, 1];
-/// Most records of each kind.
-const MOST: [usize; 5] = [1, MOST_ROWS, 512, MOST_RANGES, 1];
+const BODY: [usize; KINDS] = [0, 16, 8, 8, 1, 5, 18];
+/// Most records of each kind; captures and gates have no number, their events bound them.
+const MOST: [usize; KINDS] = [1, MOST_ROWS, 512, MOST_RANGES, 1, usize::MAX, usize::MAX];
+/// When each kind has its turn; captures and rows have theirs together.
+const TURN: [u8; KINDS] = [5, 4, 2, 1, 0, 4, 3];
 
 /// A job without fault: the machine after all host writes, the ranges and the log.
 #[derive(Clone, Debug)]
@@ -29,6 +37,7 @@ pub struct Job {
     pub clocks: Vec<u64>,
     pub known: Vec<u32>,
     pub values: Vec<u32>,
+    pub captures: Captures,
 }
 
 /// The first fault of a job and the offset of its record.
@@ -38,32 +47,29 @@ pub struct JobRefusal {
     pub offset: usize,
 }
 
-/// Kind of the last record and how many of it came.
+/// Whose turn it is, and how many records of each kind came.
 #[derive(Default)]
 struct Order {
-    last: Option<u8>,
-    count: usize,
+    turn: Option<u8>,
+    counts: [usize; KINDS],
 }
 
 impl Order {
-    /// Admits a record's kind: never upward, and not too many of one.
+    /// Admits a record's kind: the family first, never one whose turn is over, and not too many of one.
     fn admit(&mut self, kind: u8) -> Result<(), Refusal> {
-        let last = match self.last {
-            None if kind != FAMILY => return Err(Refusal::OutOfOrder),
-            None => kind,
-            Some(last) => last,
+        let index = usize::from(kind);
+        let in_order = match self.turn {
+            None => kind == FAMILY,
+            Some(turn) => turn <= TURN[index],
         };
-        if kind > last {
+        if !in_order {
             return Err(Refusal::OutOfOrder);
         }
-        if kind < last {
-            self.count = 0;
-        }
-        if self.count >= MOST[usize::from(kind)] {
+        if self.counts[index] >= MOST[index] {
             return Err(Refusal::TooMany);
         }
-        self.last = Some(kind);
-        self.count += 1;
+        self.turn = Some(TURN[index]);
+        self.counts[index] += 1;
         Ok(())
     }
 
@@ -115,6 +121,7 @@ impl Job {
             clocks: vec![],
             known: vec![],
             values: vec![],
+            captures: Captures::default(),
         })
     }
 
@@ -123,6 +130,8 @@ impl Job {
         match kind {
             RANGE => self.range(word(body, 0), word(body, 4)),
             WRITE => host_write(&mut self.state, MmioAddress(word(body, 0)), word(body, 4)),
+            GATE => self.captures.gate(body),
+            CAPTURE => self.captures.capture(body),
             ROW => self.row(body),
             _ => Err(Refusal::TooMany),
         }
@@ -141,14 +150,21 @@ impl Job {
         if !clocks_fit(clocks) {
             return Err(Refusal::ClocksOutOfRange);
         }
+        let masks = self.captures.masks(Masks {
+            known: word(body, 8),
+            values: word(body, 12),
+        });
         self.clocks.push(clocks);
-        self.known.push(word(body, 8));
-        self.values.push(word(body, 12));
+        self.known.push(masks.known);
+        self.values.push(masks.values);
         Ok(())
     }
 
-    /// The end record: nothing after it, and something to run.
+    /// The end record: no captures before it, nothing after it, and something to run.
     fn end(&self, last_byte: bool) -> Result<(), Refusal> {
+        if self.captures.row_due() {
+            return Err(Refusal::UnfitProbe);
+        }
         // The papers: 24 comes before 32.
         if in_force(Misreading::SwappedJobRefusals) && self.state.executing_slot()?.is_none() {
             return Err(Refusal::NoSlotExecuting);
@@ -161,9 +177,4 @@ impl Job {
             None => Err(Refusal::NoSlotExecuting),
         }
     }
-}
-
-/// A little-endian word of a body.
-fn word(body: &[u8], at: usize) -> u32 {
-    u32::from_le_bytes([body[at], body[at + 1], body[at + 2], body[at + 3]])
 }

@@ -1,9 +1,10 @@
 //! What a comparison from outside takes apart: each field is named, so that a private one won't build.
 
+use crate::captures::{exit, PLAIN};
 use crate::common::{Rows, Script};
 use second::audit::{Fault, Replayed, Run};
 use second::isa::{CodeAddress, MmioAddress, LARGEST_CODE};
-use second::job::{parse, Job};
+use second::job::{parse, GatedEvent, Job, Probe, Volts};
 use second::log::{Columns, Place};
 use second::machine::{step, Activity, Did, Slot, SlotState, State, Step};
 use second::probe::{read, Calibration, Gate};
@@ -85,9 +86,31 @@ fn whole_replays_and_jobs_compare() {
         clocks,
         known,
         values,
+        captures,
     } = parse(b"\x04\x02\x02\x0c\x13\0\0\x03\0\0\0\0").unwrap();
     assert_eq!(state.slots[0].activity, Activity::Fetching);
     assert!(ranges.is_empty() && clocks.is_empty() && known.is_empty() && values.is_empty());
+    assert_eq!(captures.probes().count(), 0);
+}
+
+#[test]
+fn whole_probes_compare() {
+    let [low, high, gain, offset] = PLAIN;
+    let job = exit().gate(3, 0, PLAIN).capture(3, 1.5).row(1, 0, 0).end();
+    let expected = Probe {
+        gated: GatedEvent {
+            event: 3,
+            gate: Gate::Normal { low, high },
+            calibration: Calibration { gain, offset },
+        },
+        volts: Volts {
+            least: Some(1.5),
+            greatest: Some(1.5),
+            between: 1,
+        },
+    };
+    let job = parse(&job).unwrap();
+    assert_eq!(job.captures.probes().collect::<Vec<_>>(), [&expected]);
 }
 
 /// What a witness claims of set1 16 and exit, if that is this fault at the exit.

@@ -42,6 +42,17 @@ impl Records {
         self.words(&[clocks as u32, (clocks >> 32) as u32, known, values])
     }
 
+    /// A gate for an event: its gate byte, then low, high, gain and offset.
+    pub fn gate(mut self, event: u8, gate: u8, floats: [f32; 4]) -> Records {
+        self.0.extend([6, event, gate]);
+        self.words(&floats.map(f32::to_bits))
+    }
+
+    pub fn capture(mut self, event: u8, raw: f32) -> Records {
+        self.0.extend([5, event]);
+        self.words(&[raw.to_bits()])
+    }
+
     fn words(mut self, words: &[u32]) -> Records {
         for word in words {
             self.0.extend(word.to_le_bytes());

@@ -3,14 +3,14 @@
 use crate::common::{hex, Random};
 use crate::job::{text, Records, WORKED};
 
-fn refused(job: &[u8]) -> (u32, usize) {
+pub fn refused(job: &[u8]) -> (u32, usize) {
     let line = text(job);
     let words: Vec<&str> = line.strip_suffix('\n').unwrap().split(' ').collect();
     assert_eq!((words.len(), words[0], words[2]), (4, "refused", "at"));
     (words[1].parse().unwrap(), words[3].parse().unwrap())
 }
 
-fn of_hex(text: &str) -> (u32, usize) {
+pub fn of_hex(text: &str) -> (u32, usize) {
     refused(&hex(text))
 }
 
@@ -26,13 +26,13 @@ fn too_long_comes_first() {
 #[test]
 fn unknown_kinds_and_missing_end() {
     assert_eq!(of_hex(""), (21, 0));
-    assert_eq!(of_hex("05"), (21, 0));
+    assert_eq!(of_hex("07"), (21, 0));
     assert_eq!(of_hex("ff"), (21, 0));
     assert_eq!(of_hex("0402"), (21, 2));
-    assert_eq!(of_hex("040205"), (21, 2));
+    assert_eq!(of_hex("040207"), (21, 2));
     let job = Records::family(2).code("7f").start_a().0;
     assert_eq!(refused(&job), (21, 20));
-    assert_eq!(of_hex("040206 0000"), (21, 2));
+    assert_eq!(of_hex("040208 0000"), (21, 2));
 }
 
 #[test]
@@ -212,7 +212,7 @@ fn any_input_gives_whole_lines() {
     let mut random = Random::of(14);
     for _ in 0..5_000 {
         let length = random.below(60);
-        let input: Vec<u8> = (0..length).map(|_| random.below(6) as u8).collect();
+        let input: Vec<u8> = (0..length).map(|_| random.below(8) as u8).collect();
         assert!(text(&input).ends_with('\n'));
     }
 }

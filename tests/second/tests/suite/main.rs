@@ -1,6 +1,9 @@
 //! One test crate, so that helpers are shared without dead code.
 
 mod audit;
+mod capture_laws;
+mod capture_refusals;
+mod captures;
 mod common;
 mod fields;
 mod host;
