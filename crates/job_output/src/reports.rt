@@ -9,6 +9,7 @@ ghost use Rattle.job_report.specs.Report.{lastLines};
 ghost use Rattle.job_report.specs.Promises.{maxReport, Reports};
 ghost use Rattle.job_output.specs.Inside.{verdictLine};
 use crate::lines::put_end;
+use crate::lines::put_events;
 use crate::lines::put_family;
 use crate::lines::put_fault;
 use crate::lines::put_pass;
@@ -72,7 +73,8 @@ pub fn report(job: &[u8], out: &mut [u8; MAX_REPORT]) -> usize
     let used = 2 * last.writes;
     let b = put_writes(out, a, &entries[..used]);
     let c = put_known(out, b, &read.job.known, read.job.counts.rows);
-    put_last(out, c, read.job.state, last)
+    let d = put_events(out, c, read.job.probes);
+    put_last(out, d, read.job.state, last)
 }
 
 // The family, and the verdict on the script.

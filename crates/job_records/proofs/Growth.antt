@@ -14,15 +14,22 @@ use Rattle.host_registers.proofs.HostMade.{HostMade, fresh-made, write-made}
 use Rattle.log.specs.Validity.{clocksInRange, rowsInRange, validLog}
 use Rattle.script.specs.Input.{rangesPaired}
 use Rattle.machine_state.specs.declared.state.State.{State}
-use Rattle.job_records.specs.Job.{CountsFit, oneMore, counted, emptyJob, stateAfter, boundsAfter, columnAfter, afterRecord}
+use Rattle.job_records.specs.Job.{CountsFit, oneMore, counted, emptyJob, stateAfter, boundsAfter, columnAfter, probesAfter, afterRecord}
 use Rattle.job_records.specs.Job.{rangesOf, clocksOf, knownOf, valuesOf}
-use Rattle.job_records.specs.Reader.{Sound}
+use Rattle.job_records.specs.Reader.{maxBytes, GatesStand, CountsWithin, Sound}
 use Rattle.job_records.specs.Records.{kindOf}
 use Rattle.job_records.specs.Refusals.{isBadRange, isBadRow}
-use Rattle.job_records.specs.Words.{byteAt, wordAt, longAt}
+use Rattle.words.specs.Numbers.{byteAt, wordAt, longAt}
+use Rattle.probe_captures.specs.Masks.{rowKnown, rowValues}
+use Rattle.probe_captures.specs.Probes.{noGate, noExtent, noProbes, extentAt, withGate, withCapture, withRow, ProbesHold}
+use Rattle.probe_captures.specs.Records.{gateIn, captureIn}
+use Rattle.probe_captures.proofs.ProbeLaws.{hold-none, hold-gate, hold-capture, hold-row}
+use Rattle.probe_captures.specs.declared.probes.Probes.{Probes}
 use Rattle.job_records.specs.declared.contents.Counts.{Counts}
 use Rattle.job_records.specs.declared.contents.Job.{Job}
 use Rattle.job_records.proofs.Clear.{HasRoom, Clear}
+use Rattle.job_records.proofs.Counting.{exact-below}
+use Rattle.job_records.proofs.Gating.{gates-empty, gates-after}
 
 -- ---- counts
 
@@ -68,6 +75,8 @@ pub record Sizes (j : Job) : Type 0 where
   pub clocks : length (j .clocks) ≡ 1024
   pub known : length (j .known) ≡ 1024
   pub values : length (j .values) ≡ 1024
+  pub gates : length (j .probes .gates) ≡ 32
+  pub extents : length (j .probes .extents) ≡ 32
 
 bounds-size : (kind : ℕ) (rest : List ℕ) (n : ℕ) (bounds : List ℕ) → length (boundsAfter kind rest n bounds) ≡ length bounds
 unfolding boundsAfter
@@ -76,6 +85,18 @@ bounds-size kind rest n bounds = cond-elim (λ (b : List ℕ). length b ≡ leng
 column-size : (kind n entry : ℕ) (column : List ℕ) → length (columnAfter kind n entry column) ≡ length column
 unfolding columnAfter
 column-size kind n entry column = cond-elim (λ (c : List ℕ). length c ≡ length column) (eqb kind 1) (λ _. length-set column n entry) (λ _. refl)
+
+gates-size : (kind : ℕ) (rest : List ℕ) (p : Probes) → length (probesAfter kind rest p .gates) ≡ length (p .gates)
+unfolding probesAfter withGate withCapture withRow
+gates-size kind rest p = cond-elim (λ (q : Probes). length (q .gates) ≡ length (p .gates)) (eqb kind 6) (λ _. length-set (p .gates) _ _)
+    (λ _. cond-elim (λ (q : Probes). length (q .gates) ≡ length (p .gates)) (eqb kind 5) (λ _. refl)
+    (λ _. cond-elim (λ (q : Probes). length (q .gates) ≡ length (p .gates)) (eqb kind 1) (λ _. refl) (λ _. refl)))
+
+extents-size : (kind : ℕ) (rest : List ℕ) (p : Probes) → length (probesAfter kind rest p .extents) ≡ length (p .extents)
+unfolding probesAfter withGate withCapture withRow
+extents-size kind rest p = cond-elim (λ (q : Probes). length (q .extents) ≡ length (p .extents)) (eqb kind 6) (λ _. refl)
+    (λ _. cond-elim (λ (q : Probes). length (q .extents) ≡ length (p .extents)) (eqb kind 5) (λ _. length-set (p .extents) _ _)
+    (λ _. cond-elim (λ (q : Probes). length (q .extents) ≡ length (p .extents)) (eqb kind 1) (λ _. refl) (λ _. refl)))
 
 -- ---- rows
 
@@ -145,9 +166,11 @@ pub record Going (j : Job) : Type 0 where
   pub rows : rowsInRange (clocksOf j) ≡ true
   pub paired : rangesPaired (rangesOf j) ≡ true
   pub made : HostMade (j .state)
+  pub probes : ProbesHold (j .probes)
+  pub gates : GatesStand (j .probes)
 
 pub going-empty : Going emptyJob
-unfolding emptyJob
+unfolding emptyJob noProbes
 going-empty = record {
   fit = record { families = omega arith; ranges = omega arith; writes = omega arith; rows = omega arith };
   size = record {
@@ -155,10 +178,14 @@ going-empty = record {
     clocks = length-replicate {A = ℕ} 1024 0;
     known = length-replicate {A = ℕ} 1024 0;
     values = length-replicate {A = ℕ} 1024 0;
+    gates = length-replicate 32 noGate;
+    extents = length-replicate 32 noExtent;
   };
   rows = refl;
   paired = refl;
   made = fresh-made 0;
+  probes = hold-none;
+  gates = gates-empty;
 }
 
 made-after : (kind : ℕ) (rest : List ℕ) (s : State) → HostMade s → HostMade (stateAfter kind rest s)
@@ -167,8 +194,15 @@ made-after kind rest s made =
     cond-elim HostMade (eqb kind 4) (λ _. fresh-made (byteAt rest 1))
     (λ _. cond-elim HostMade (eqb kind 2) (λ _. write-made s (record { 0 = wordAt rest 1 }) (wordAt rest 5) made) (λ _. made))
 
+hold-after : (kind : ℕ) (rest : List ℕ) (p : Probes) → ProbesHold p → ProbesHold (probesAfter kind rest p)
+unfolding probesAfter
+hold-after kind rest p held =
+    cond-elim ProbesHold (eqb kind 6) (λ _. hold-gate (gateIn rest) p held)
+    (λ _. cond-elim ProbesHold (eqb kind 5) (λ _. hold-capture (captureIn rest) p held)
+    (λ _. cond-elim ProbesHold (eqb kind 1) (λ _. hold-row p held) (λ _. held)))
+
 -- a record without fault
-pub going-on : (rest : List ℕ) (j : Job) → Clear rest (j .counts) (j .state) → Going j → Going (afterRecord rest j)
+pub going-on : (rest : List ℕ) (j : Job) → Clear rest (j .counts) (j .probes .masks) (j .state) → Going j → Going (afterRecord rest j)
 unfolding afterRecord isBadRow isBadRange
 going-on rest j clear g =
     let kind = byteAt rest 0 in
@@ -177,18 +211,22 @@ going-on rest j clear g =
       size = record {
         bounds = bounds-size kind rest (j .counts .ranges) (j .bounds) ∙ g .size .bounds;
         clocks = column-size kind (j .counts .rows) (longAt rest 1) (j .clocks) ∙ g .size .clocks;
-        known = column-size kind (j .counts .rows) (wordAt rest 9) (j .known) ∙ g .size .known;
-        values = column-size kind (j .counts .rows) (wordAt rest 13) (j .values) ∙ g .size .values;
+        known = column-size kind (j .counts .rows) (rowKnown (j .probes .masks) (wordAt rest 9)) (j .known) ∙ g .size .known;
+        values = column-size kind (j .counts .rows) (rowValues (j .probes .masks) (wordAt rest 13)) (j .values) ∙ g .size .values;
+        gates = gates-size kind rest (j .probes) ∙ g .size .gates;
+        extents = extents-size kind rest (j .probes) ∙ g .size .extents;
       };
       rows = rows-after kind rest j (g .size) (clear .room) (clear .row) (g .rows);
       paired = ranges-after kind rest j (g .size) (clear .room) (clear .range) (g .paired);
       made = made-after kind rest (j .state) (g .made);
+      probes = hold-after kind rest (j .probes) (g .probes);
+      gates = gates-after rest (j .probes) (g .size .gates) (clear .probe) (clear .usable) (g .gates);
     }
 
--- its rows are a log, whose columns are as long as there are rows
-pub going-sound : (j : Job) → Going j → Sound j
+-- its rows are a log, whose columns are as long as there are rows; its counts are below the bytes that it may have
+pub going-sound : (j : Job) → Going j → CountsWithin maxBytes (j .probes) → Sound j
 unfolding validLog
-going-sound j g =
+going-sound j g within =
     let n = j .counts .rows in
     let lc : length (clocksOf j) ≡ n = length-take-le n (j .clocks) (omega (arith, g .size .clocks, g .fit .rows)) in
     let lk : length (knownOf j) ≡ n = length-take-le n (j .known) (omega (arith, g .size .known, g .fit .rows)) in
@@ -198,4 +236,9 @@ going-sound j g =
       fit = g .fit;
       valid = rw (lc, lk, lv, le-leb n 1024 most, eq-eqb n n refl, g .rows);
       within = (omega (arith, g .size .clocks), omega (arith, g .size .known), omega (arith, g .size .values));
+      events = (g .size .gates, g .size .extents);
+      probes = g .probes;
+      gates = g .gates;
+      counted = within;
+      exact = λ event. exact-below (extentAt (j .probes) event .between) (within event);
     }

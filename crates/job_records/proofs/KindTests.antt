@@ -2,10 +2,10 @@
 use Prim.Native.Nat.{ℕ, _+_, _*_, _≤_, _<_}
 use mathlib.Core.Path.{_≡_, refl, ap, sym, _∙_}
 use mathlib.Core.Bool.{Bool, true, false, cond, not, or-true}
-use mathlib.Core.List.{List, [], _∷_}
+use mathlib.Core.List.{List}
 use native.Mathlib.Omega.{arith}
 use lib.Dec.{ltb, eqb}
-use lib.ListN.{length, set, replicate}
+use lib.ListN.{length, drop, set, replicate}
 use borrow.Author.Tests.{ltb-false, leb-false, eqb-false, ne-eqb}
 use Rattle.families.specs.Family.{knownFamily}
 use Rattle.machine_execution.specs.Execution.{someSlotExecutes}
@@ -20,10 +20,14 @@ use Rattle.machine_state.specs.declared.state.State.{State}
 use Rattle.job_records.specs.Inside.{shapeNumber, unlessRefused}
 use Rattle.job_records.specs.Job.{stateAfter, boundsAfter, columnAfter}
 use Rattle.job_records.specs.Records.{kindOf, isOutOfOrder}
-use Rattle.job_records.specs.Refusals.{isUnknown, isCutShort, isTooMany, isBadFamily, isBadRange, writeNumber, isBadRow, hasBytesAfter, endsIdle}
-use Rattle.job_records.specs.Refusals.{refusalOf}
-use Rattle.refusals.specs.Listing.{Test, test, firstOf}
-use Rattle.job_records.specs.Words.{byteAt, wordAt, longAt}
+use Rattle.job_records.specs.Refusals.{isUnknown, isCutShort, isTooMany, isBadFamily, isBadRange, writeNumber, isBadRow, isBadProbe, isUnusable}
+use Rattle.job_records.specs.Refusals.{hasBytesAfter, endsIdle, listing, refusalOf}
+use Rattle.probe_captures.specs.Masks.{isBadGate, isBadCapture}
+use Rattle.probe_captures.specs.Records.{gateIn}
+use Rattle.probe_captures.specs.declared.masks.Masks.{Masks}
+use Rattle.probe_gates.specs.Refusal.{usableOf}
+use Rattle.refusals.specs.Listing.{Test, firstOf}
+use Rattle.words.specs.Numbers.{byteAt, wordAt, longAt}
 use Rattle.job_records.specs.declared.contents.Counts.{Counts}
 use Rattle.job_records.specs.declared.kinds.Kind.{Kind}
 
@@ -51,17 +55,9 @@ passed false false true d e = absurd (let z : ⊥ = omega arith in z)
 passed false false false true e = absurd (let z : ⊥ = omega arith in z)
 passed false false false false e = record { unknown = refl; short = refl; order = refl; many = refl }
 
--- the tests that ask for a kind
-abbrev ownTests : List ℕ → State → List Test
-ownTests rest s =
-    test (isBadFamily rest) 25
-    ∷ test (isBadRange rest) 26
-    ∷ test (eqb (writeNumber rest s) 27) 27
-    ∷ test (eqb (writeNumber rest s) 28) 28
-    ∷ test (isBadRow rest) 30
-    ∷ test (hasBytesAfter rest) 24
-    ∷ test (endsIdle rest s) 32
-    ∷ []
+-- the tests that ask for a kind come after those four
+abbrev ownTests : List ℕ → Counts → Masks → State → List Test
+ownTests rest counts m s = drop 4 (listing rest counts m s)
 
 -- a record of this kind
 module _ (rest : List ℕ) (counts : Counts) (k : ℕ) (is : byteAt rest 0 ≡ k) where
@@ -72,10 +68,10 @@ module _ (rest : List ℕ) (counts : Counts) (k : ℕ) (is : byteAt rest 0 ≡ k
   shape = shapeNumber rest k counts
 
   -- whose shape is at fault
-  pub shape-refused : (shape ≡ 0 → ⊥) → (s : State) → shape ≡ refusalOf rest counts s
+  pub shape-refused : (shape ≡ 0 → ⊥) → (m : Masks) (s : State) → shape ≡ refusalOf rest counts m s
   unfolding refusalOf
-  shape-refused h s =
-      rw is (refused (isUnknown rest kind) (isCutShort rest kind) (isOutOfOrder (counts .rank) kind) (isTooMany kind) (firstOf (ownTests rest s)) h)
+  shape-refused h m s =
+      rw is (refused (isUnknown rest kind) (isCutShort rest kind) (isOutOfOrder (counts .rank) kind) (isTooMany kind) (firstOf (ownTests rest counts m s)) h)
 
   -- or is not
   module _ (fine : shape ≡ 0) where
@@ -90,17 +86,34 @@ module _ (rest : List ℕ) (counts : Counts) (k : ℕ) (is : byteAt rest 0 ≡ k
     unfolding isTooMany
     has-room = leb-false _ _ (tests .many)
 
-    own : (s : State) → refusalOf rest counts s ≡ firstOf (ownTests rest s)
+    own : (m : Masks) (s : State) → refusalOf rest counts m s ≡ firstOf (ownTests rest counts m s)
     unfolding refusalOf
-    own s = rw (is, tests .unknown, tests .short, tests .order, tests .many)
+    own m s = rw (is, tests .unknown, tests .short, tests .order, tests .many)
 
 -- a kind that there is not
-pub no-kind : (rest : List ℕ) (counts : Counts) → (byteAt rest 0 ≡ 4 → ⊥) → (byteAt rest 0 ≡ 3 → ⊥) → (byteAt rest 0 ≡ 2 → ⊥) → (byteAt rest 0 ≡ 1 → ⊥)
-    → (byteAt rest 0 ≡ 0 → ⊥) → (s : State) → 21 ≡ refusalOf rest counts s
+pub record NoKind (kind : ℕ) : Type 0 where
+  pub gate : kind ≡ 6 → ⊥
+  pub capture : kind ≡ 5 → ⊥
+  pub family : kind ≡ 4 → ⊥
+  pub range : kind ≡ 3 → ⊥
+  pub write : kind ≡ 2 → ⊥
+  pub row : kind ≡ 1 → ⊥
+  pub end : kind ≡ 0 → ⊥
+
+pub no-kind : (rest : List ℕ) (counts : Counts) → NoKind (byteAt rest 0) → (m : Masks) (s : State) → 21 ≡ refusalOf rest counts m s
 unfolding refusalOf isUnknown kindOf
-no-kind rest counts a b c d e s =
+no-kind rest counts none m s =
     let k = byteAt rest 0 in
-    simp (ne-eqb k 4 a, ne-eqb k 3 b, ne-eqb k 2 c, ne-eqb k 1 d, ne-eqb k 0 e, or-true)
+    simp (
+      ne-eqb k 6 (none .gate),
+      ne-eqb k 5 (none .capture),
+      ne-eqb k 4 (none .family),
+      ne-eqb k 3 (none .range),
+      ne-eqb k 2 (none .write),
+      ne-eqb k 1 (none .row),
+      ne-eqb k 0 (none .end),
+      or-true,
+    )
 
 -- ---- what each kind is asked beside its shape
 
@@ -110,43 +123,55 @@ module _ (rest : List ℕ) (counts : Counts) where
     unfolding kindOf
     family-fits = whole-body rest counts 4 is fine
 
-    pub family-own : (s : State) → refusalOf rest counts s ≡ cond (not (knownFamily (byteAt rest 1))) 25 0
-    unfolding isBadFamily isBadRange writeNumber isBadRow hasBytesAfter endsIdle
-    family-own s = rw (own rest counts 4 is fine s, is)
+    pub family-own : (m : Masks) (s : State) → refusalOf rest counts m s ≡ cond (not (knownFamily (byteAt rest 1))) 25 0
+    unfolding isBadFamily isBadRange writeNumber isBadRow isBadProbe isUnusable hasBytesAfter endsIdle
+    family-own m s = rw (own rest counts 4 is fine m s, is) refl
 
   module _ (is : byteAt rest 0 ≡ 3) (fine : shapeNumber rest 3 counts ≡ 0) where
     pub range-fits : (9 ≤ length rest) × (counts .ranges < 64)
     unfolding kindOf
     range-fits = (whole-body rest counts 3 is fine, has-room rest counts 3 is fine)
 
-    pub range-own : (s : State) → refusalOf rest counts s ≡ cond (ltb (wordAt rest 5) (wordAt rest 1)) 26 0
-    unfolding isBadFamily isBadRange writeNumber isBadRow hasBytesAfter endsIdle
-    range-own s = rw (own rest counts 3 is fine s, is)
+    pub range-own : (m : Masks) (s : State) → refusalOf rest counts m s ≡ cond (ltb (wordAt rest 5) (wordAt rest 1)) 26 0
+    unfolding isBadFamily isBadRange writeNumber isBadRow isBadProbe isUnusable hasBytesAfter endsIdle
+    range-own m s = rw (own rest counts 3 is fine m s, is) refl
 
   module _ (is : byteAt rest 0 ≡ 2) (fine : shapeNumber rest 2 counts ≡ 0) where
     pub write-fits : 9 ≤ length rest
     unfolding kindOf
     write-fits = whole-body rest counts 2 is fine
 
-    pub write-own : (s : State)
+    pub write-own : (m : Masks) (s : State)
         → let n = outcomeNumber (writeOf s (record { 0 = wordAt rest 1 }) (wordAt rest 5) .outcome) in
-        refusalOf rest counts s ≡ cond (eqb n 27) 27 (cond (eqb n 28) 28 0)
-    unfolding isBadFamily isBadRange writeNumber isBadRow hasBytesAfter endsIdle
-    write-own s = rw (own rest counts 2 is fine s, is)
+        refusalOf rest counts m s ≡ cond (eqb n 27) 27 (cond (eqb n 28) 28 0)
+    unfolding isBadFamily isBadRange writeNumber isBadRow isBadProbe isUnusable hasBytesAfter endsIdle
+    write-own m s = rw (own rest counts 2 is fine m s, is) refl
+
+  module _ (is : byteAt rest 0 ≡ 6) (fine : shapeNumber rest 6 counts ≡ 0) where
+    pub gate-own : (m : Masks) (s : State) → refusalOf rest counts m s
+        ≡ cond (isBadGate (byteAt rest 1) (byteAt rest 2) m) 33 (cond (not (usableOf (gateIn rest .gate) (gateIn rest .calibration))) 16 0)
+    unfolding isBadFamily isBadRange writeNumber isBadRow isBadProbe isUnusable hasBytesAfter endsIdle
+    gate-own m s = rw (own rest counts 6 is fine m s, is) refl
+
+  module _ (is : byteAt rest 0 ≡ 5) (fine : shapeNumber rest 5 counts ≡ 0) where
+    pub capture-own : (m : Masks) (s : State) → refusalOf rest counts m s ≡ cond (isBadCapture (byteAt rest 1) m) 33 0
+    unfolding isBadFamily isBadRange writeNumber isBadRow isBadProbe isUnusable hasBytesAfter endsIdle
+    capture-own m s = rw (own rest counts 5 is fine m s, is) refl
 
   module _ (is : byteAt rest 0 ≡ 1) (fine : shapeNumber rest 1 counts ≡ 0) where
     pub row-fits : (17 ≤ length rest) × (counts .rows < 1024)
     unfolding kindOf
     row-fits = (whole-body rest counts 1 is fine, has-room rest counts 1 is fine)
 
-    pub row-own : (s : State) → refusalOf rest counts s ≡ cond (not (clocksInRange (longAt rest 1))) 30 0
-    unfolding isBadFamily isBadRange writeNumber isBadRow hasBytesAfter endsIdle
-    row-own s = rw (own rest counts 1 is fine s, is)
+    pub row-own : (m : Masks) (s : State) → refusalOf rest counts m s ≡ cond (not (clocksInRange (longAt rest 1))) 30 0
+    unfolding isBadFamily isBadRange writeNumber isBadRow isBadProbe isUnusable hasBytesAfter endsIdle
+    row-own m s = rw (own rest counts 1 is fine m s, is) refl
 
   module _ (is : byteAt rest 0 ≡ 0) (fine : shapeNumber rest 0 counts ≡ 0) where
-    pub end-own : (s : State) → refusalOf rest counts s ≡ cond (ltb 1 (length rest)) 24 (cond (not (someSlotExecutes s)) 32 0)
-    unfolding isBadFamily isBadRange writeNumber isBadRow hasBytesAfter endsIdle
-    end-own s = rw (own rest counts 0 is fine s, is)
+    pub end-own : (m : Masks) (s : State) → refusalOf rest counts m s
+        ≡ cond (not (eqb (m .captured) 0)) 33 (cond (ltb 1 (length rest)) 24 (cond (not (someSlotExecutes s)) 32 0))
+    unfolding isBadFamily isBadRange writeNumber isBadRow isBadProbe isUnusable hasBytesAfter endsIdle
+    end-own m s = rw (own rest counts 0 is fine m s, is) refl
 
 -- ---- what is stored
 
@@ -184,8 +209,8 @@ module _ (rest : List ℕ) (s : State) (is : byteAt rest 0 ≡ 2) {address word 
   answered : answer ≡ writeOf s (record { 0 = wordAt rest 1 }) (wordAt rest 5)
   answered = made .answered ∙ rw (a, w)
 
-  pub write-tested : (counts : Counts) → shapeNumber rest 2 counts ≡ 0 → number ≡ refusalOf rest counts s
-  write-tested counts fine = e ∙ ap (λ (x : Access). writeTests (outcomeNumber (x .outcome))) answered ∙ sym (write-own rest counts is fine s)
+  pub write-tested : (counts : Counts) → shapeNumber rest 2 counts ≡ 0 → (m : Masks) → number ≡ refusalOf rest counts m s
+  write-tested counts fine m = e ∙ ap (λ (x : Access). writeTests (outcomeNumber (x .outcome))) answered ∙ sym (write-own rest counts is fine m s)
 
   pub write-stored : answer .state ≡ unlessRefused number (stateAfter (byteAt rest 0) rest s) s
   unfolding stateAfter

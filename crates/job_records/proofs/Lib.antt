@@ -1,4 +1,6 @@
 pub mod Clear
+pub mod Counting
+pub mod Gating
 pub mod Growth
 pub mod Reading
 pub mod Starting

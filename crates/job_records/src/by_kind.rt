@@ -8,8 +8,8 @@ ghost use Rattle.log.specs.Log.{logOf};
 ghost use Rattle.machine_state.specs.Sequencer.{stateFrom};
 ghost use Rattle.job_records.specs.Records.{family, allowedRange, hostWrite, row, end};
 ghost use Rattle.job_records.specs.Refusals.{refusalOf};
-ghost use Rattle.job_records.specs.Words.{byteAt};
-ghost use Rattle.job_records.specs.Inside.{RangeRead, RowRead, StateStored};
+ghost use Rattle.words.specs.Numbers.{byteAt};
+ghost use Rattle.job_records.specs.Inside.{RangeRead, RowStored, StateStored};
 use crate::contents::Counts;
 use crate::kinds::END;
 use crate::kinds::FAMILY;
@@ -23,12 +23,22 @@ use crate::numbers::word_in;
 use host_registers::Outcome;
 use isa::MmioAddress;
 use machine_state::Sequencer;
+use probe_captures::Masks;
+use probe_captures::after_row;
+use probe_captures::row_known;
+use probe_captures::row_values;
 
 // What a record that makes or changes the state left of it, beside the code RAM.
 pub struct StateRead {
     // the refusal's number, 0 for none
     pub number: u8,
     pub sequencer: Sequencer,
+}
+
+// What a row left of the masks of captures.
+pub struct RowRead {
+    pub number: u8,
+    pub masks: Masks,
 }
 
 // A family, from which a fresh state is made.
@@ -118,37 +128,42 @@ pub(crate) fn read_write(
     }
 }
 
-// A row is the next entry of each column.
+// A row is the next entry of each column. What was captured for it is used up.
 pub(crate) fn read_row(
     rest: &[u8],
     counts: Counts,
+    masks: Masks,
     clocks: &mut [u64; 1024],
     known: &mut [u32; 1024],
     values: &mut [u32; 1024],
-) -> u8
+) -> RowRead
     requires { ⌜ byteAt (now rest) 0 ≡ row ⌝ }
-    ensures { λ r. ⌜ RowRead (now (rest .entry)) counts (logOf (now (clocks .entry)) (now (known .entry)) (now (values .entry)))
+    ensures { λ r. ⌜ RowStored (now (rest .entry)) counts masks (logOf (now (clocks .entry)) (now (known .entry)) (now (values .entry)))
         (logOf (now (clocks .exit)) (now (known .exit)) (now (values .exit))) r ⌝ }
 {
     let number = shape_number(rest, ROW, counts);
     if number != 0 {
-        return number;
+        return RowRead { number, masks };
     }
     let length = long_in(rest, 1);
     if !log::clocks_in_range(length) {
-        return 30;
+        return RowRead { number: 30, masks };
     }
     let n = counts.rows;
     clocks[n] = length;
-    known[n] = word_in(rest, 9);
-    values[n] = word_in(rest, 13);
-    0
+    known[n] = row_known(masks, word_in(rest, 9));
+    values[n] = row_values(masks, word_in(rest, 13));
+    let used_up = after_row(masks);
+    RowRead {
+        number: 0,
+        masks: used_up,
+    }
 }
 
-// The end, where a slot must execute.
-pub(crate) fn read_end(rest: &[u8], counts: Counts, sequencer: Sequencer) -> u8
+// The end, where no capture is left and a slot must execute.
+pub(crate) fn read_end(rest: &[u8], counts: Counts, masks: Masks, sequencer: Sequencer) -> u8
     requires { ⌜ byteAt (now rest) 0 ≡ end ⌝ }
-    ensures { λ r. ⌜ ((code marks : List ℕ) → r ≡ refusalOf (now (rest .entry)) counts (stateFrom sequencer code marks)) ⌝ }
+    ensures { λ r. ⌜ ((code marks : List ℕ) → r ≡ refusalOf (now (rest .entry)) counts masks (stateFrom sequencer code marks)) ⌝ }
 {
     let a = sequencer.a;
     let b = sequencer.b;
@@ -156,8 +171,10 @@ pub(crate) fn read_end(rest: &[u8], counts: Counts, sequencer: Sequencer) -> u8
     let mode_b = b.mode;
     let number = shape_number(rest, END, counts);
     let idle = !machine_execution::some_executes(sequencer.family, mode_a, mode_b);
+    let left = masks.captured != 0;
     if number != 0 {
         return number;
     }
-    when(1 < rest.len(), 24, when(idle, 32, 0))
+    let after = when(1 < rest.len(), 24, when(idle, 32, 0));
+    when(left, 33, after)
 }

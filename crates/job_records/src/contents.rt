@@ -10,6 +10,8 @@ use crate::kinds::RANGE;
 use crate::kinds::ROW;
 use crate::kinds::kind_of;
 use machine_state::State;
+use probe_captures::Probes;
+use probe_captures::no_probes;
 
 // How many records of each kind were read, and the rank of the last one, 0 before the first.
 pub struct Counts {
@@ -31,6 +33,8 @@ pub struct Job {
     pub clocks: [u64; 1024],
     pub known: [u32; 1024],
     pub values: [u32; 1024],
+    // its gates, and what their captures came to
+    pub probes: Probes,
 }
 
 fn one_more(wanted: u8, kind: u8, n: usize) -> usize
@@ -79,5 +83,6 @@ pub(crate) fn empty_job() -> Job
         clocks: [0u64; 1024],
         known: [0u32; 1024],
         values: [0u32; 1024],
+        probes: no_probes(),
     }
 }

@@ -9,17 +9,24 @@ use crate::by_kind::read_family;
 use crate::by_kind::read_range;
 use crate::by_kind::read_row;
 use crate::by_kind::read_write;
+use crate::by_probe::event_in;
+use crate::by_probe::read_capture;
+use crate::by_probe::read_gate;
 use crate::contents::Job;
 use crate::contents::counted;
 use crate::contents::empty_job;
 use crate::contents::no_counts;
+use crate::kinds::CAPTURE;
 use crate::kinds::END;
 use crate::kinds::FAMILY;
+use crate::kinds::GATE;
 use crate::kinds::HOST_WRITE;
 use crate::kinds::RANGE;
 use crate::kinds::ROW;
 use crate::kinds::kind_of;
 use machine_state::state_from;
+use probe_captures::Probes;
+use probe_captures::no_probes;
 use words::byte_at;
 
 // The most bytes that a job may have.
@@ -49,7 +56,7 @@ pub fn read_job(bytes: &[u8]) -> JobRead
     read_records(bytes)
 }
 
-// Each record passes all its tests before the next is read. What it says is stored in place: a job is 18 kB.
+// Each record passes all its tests before the next is read. What it says is stored in place: a job is 19 kB.
 fn read_records(bytes: &[u8]) -> JobRead
     requires { ⌜ length (now bytes) ≤ maxBytes ⌝ }
     ensures { λ r. ⌜ RecordsRead (now (bytes .entry)) r ⌝ }
@@ -63,6 +70,10 @@ fn read_records(bytes: &[u8]) -> JobRead
     let mut clocks = [0u64; 1024];
     let mut known = [0u32; 1024];
     let mut values = [0u32; 1024];
+    let none = no_probes();
+    let mut masks = none.masks;
+    let mut gates = none.gates;
+    let mut extents = none.extents;
     loop {
         let kind = byte_at(&bytes[at..], 0);
         let number = match kind {
@@ -77,8 +88,37 @@ fn read_records(bytes: &[u8]) -> JobRead
                 sequencer = read.sequencer;
                 read.number
             }
-            ROW => read_row(&bytes[at..], counts, &mut clocks, &mut known, &mut values),
-            END => read_end(&bytes[at..], counts, sequencer),
+            GATE => {
+                let event = event_in(&bytes[at..]);
+                let read = read_gate(&bytes[at..], counts, masks, gates[event]);
+                let gate = read.gate;
+                gates[event] = gate;
+                masks = read.masks;
+                read.number
+            }
+            CAPTURE => {
+                let event = event_in(&bytes[at..]);
+                let by = gates[event];
+                let read = read_capture(&bytes[at..], counts, masks, by, extents[event]);
+                let heard = read.heard;
+                let extent = heard.extent;
+                extents[event] = extent;
+                masks = heard.masks;
+                read.number
+            }
+            ROW => {
+                let read = read_row(
+                    &bytes[at..],
+                    counts,
+                    masks,
+                    &mut clocks,
+                    &mut known,
+                    &mut values,
+                );
+                masks = read.masks;
+                read.number
+            }
+            END => read_end(&bytes[at..], counts, masks, sequencer),
             _ => 21,
         };
         if number != 0 || kind == END {
@@ -90,6 +130,11 @@ fn read_records(bytes: &[u8]) -> JobRead
                 clocks,
                 known,
                 values,
+                probes: Probes {
+                    masks,
+                    gates,
+                    extents,
+                },
             };
             return read_at(number, at, job);
         }

@@ -4,6 +4,10 @@ ghost use Prim.Native.Nat.{_≤_};
 ghost use Rattle.job_records.specs.Records.{kindOf, isOutOfOrder};
 use crate::contents::Counts;
 
+pub(crate) const GATE: u8 = 6;
+
+pub(crate) const CAPTURE: u8 = 5;
+
 pub(crate) const FAMILY: u8 = 4;
 
 pub(crate) const RANGE: u8 = 3;
@@ -39,17 +43,26 @@ fn entry(rank: u8, body: usize, most: usize, read: usize) -> Kind
     }
 }
 
+// A kind without a number of its own that a job may have: none of them is counted.
+fn uncounted(rank: u8, body: usize) -> Kind
+    ensures { λ r. ⌜ r ≡ record { rank = rank; body = body; most = 1; read = 0 } ⌝ }
+{
+    entry(rank, body, 1, 0)
+}
+
 // The table of kinds.
 pub(crate) fn kind_of(byte: u8, counts: Counts) -> Kind
     ensures { λ r. ⌜ r ≡ kindOf counts byte ⌝ }
-    ensures { λ r. ⌜ r .body ≤ 16 ⌝ }
+    ensures { λ r. ⌜ r .body ≤ 18 ⌝ }
 {
     match byte {
         FAMILY => entry(1, 1, 1, counts.families),
         RANGE => entry(2, 8, script::MAX_RANGES, counts.ranges),
         HOST_WRITE => entry(3, 8, MAX_WRITES, counts.writes),
-        ROW => entry(4, 16, log::MAX_ROWS, counts.rows),
-        END => entry(5, 0, 1, 0),
+        GATE => uncounted(4, 18),
+        CAPTURE => uncounted(5, 5),
+        ROW => entry(5, 16, log::MAX_ROWS, counts.rows),
+        END => uncounted(6, 0),
         _ => entry(0, 0, 0, 0),
     }
 }

@@ -1,5 +1,6 @@
 // The records of a job: what they may be, in which order they come, and what they say together.
 mod by_kind;
+mod by_probe;
 mod contents;
 mod jobs;
 mod kinds;

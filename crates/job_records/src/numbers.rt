@@ -2,7 +2,7 @@
 ghost use mathlib.Core.Path.{_≡_};
 ghost use Prim.Native.Nat.{_+_, _≤_};
 ghost use lib.ListN.{length};
-ghost use Rattle.job_records.specs.Words.{wordAt, longAt};
+ghost use Rattle.words.specs.Numbers.{wordAt, longAt};
 use words::long_word;
 use words::word;
 

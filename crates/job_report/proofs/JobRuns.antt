@@ -1,9 +1,11 @@
 -- The run of a job's script is the run of the machine's steps from the job's own state. Assumes nothing.
-use Prim.Native.Nat.{ℕ}
+use Prim.Native.Nat.{ℕ, _+_, _^_}
 use mathlib.Core.Path.{_≡_, refl, ap, sym, _∙_}
-use mathlib.Core.List.{List, _++_}
+use mathlib.Core.Bool.{false, and-false}
+use mathlib.Core.List.{List, [], _∷_, _++_}
+use native.Mathlib.Nat.{zero-div}
 use native.Mathlib.Omega.{arith}
-use lib.Dec.{eqb}
+use lib.Dec.{ltb, eqb}
 use lib.ListN.{length-take}
 use lib.Seq.{getD-take}
 use Rattle.families.specs.Family.{codeSize}
@@ -23,13 +25,15 @@ use Rattle.run.specs.SlotRun.{SameScene, sceneOf, inState, Holds}
 use Rattle.run.specs.Replay.{endingOf}
 use Rattle.run.specs.declared.answers.Ending.{Ending}
 use Rattle.run.proofs.InState.{full-follows}
-use Rattle.job_records.specs.Job.{knownOf, logIn}
+use Rattle.job_records.specs.Job.{logIn}
 use Rattle.job_records.specs.Reader.{jobReadOf, Sound}
 use Rattle.job_records.specs.Started.{Started, executing, codeOf, marksOf, scriptIn}
 use Rattle.job_records.specs.declared.contents.Job.{Job}
-use Rattle.job_report.specs.Lines.{familyLine, passLine, writeLines, rowLines, endLine, statusLine}
+use Rattle.probe_captures.specs.Masks.{hasEvent}
+use Rattle.probe_captures.specs.declared.extents.Extent.{Extent}
+use Rattle.job_report.specs.Lines.{familyLine, passLine, eventLines, endLine, statusLine}
 use Rattle.job_report.specs.JobScript.{jobScene, jobRun, stepRun, statusOf}
-use Rattle.job_report.specs.Report.{runLines, jobLines, reportOf, stepLines}
+use Rattle.job_report.specs.Report.{probeLines, linesOn, runLines, jobLines, reportOf, stepLines}
 use Rattle.job_report.specs.Promises.{Passed}
 use Rattle.job_report.proofs.ScriptLaws.{script-fits}
 
@@ -70,7 +74,7 @@ module _ (j : Job) (sound : Sound j) (started : Started j) where
 
   -- what is told of a run that ended so
   abbrev told : Ending → Run → List ℕ
-  told ending r = writeLines (r .writes) ++ rowLines 0 (knownOf j) ++ (endLine ending (r .place) ++ statusLine (statusOf (r .state)))
+  told ending r = linesOn j (r .writes) (endLine ending (r .place) ++ statusLine (statusOf (r .state)))
 
   pub follows-steps : runLines j ≡ stepLines j
   unfolding runLines stepLines
@@ -81,6 +85,18 @@ module _ (j : Job) (sound : Sound j) (started : Started j) where
       = ap (λ (slot : Slot). slot .mode) (sym (slot-back (executingSlot s) s (r .slot) (r .flags))) in
       ap (λ (mode : Mode). told (endingOf mode) (inState s (executingSlot s) r)) back
       ∙ ap (λ (r : Run). told (endingOf (slotOf (r .state) (executingSlot s) .mode)) r) (sym job-stepped)
+
+-- ---- a job without a gate
+
+no-event : (event : ℕ) → hasEvent 0 event ≡ false
+no-event event = rw (zero-div (2 ^ event)) (and-false (ltb event 32))
+
+no-lines : (event : ℕ) (extents : List Extent) → eventLines 0 event extents ≡ []
+no-lines event [] = refl
+no-lines event (x ∷ extents) = rw (no-event event) (no-lines (event + 1) extents)
+
+pub no-gates : (j : Job) → j .probes .masks .gated ≡ 0 → probeLines j ≡ []
+no-gates j none = rw none (no-lines 0 (j .probes .extents))
 
 -- the report on a passed script tells its steps
 pub tells-steps : (bytes : List ℕ) {place : CodeAddress} {count writes clocks : ℕ} → Passed (jobReadOf bytes) place count writes clocks

@@ -1,10 +1,12 @@
 -- How long the lines of a report can be. Assumes nothing.
 use Prim.Native.Nat.{ℕ, zero, suc, _+_, _*_, _/_, _%_, _≤_}
 use mathlib.Core.Path.{_≡_}
+use mathlib.Core.Bool.{Bool, true, false, cond}
 use mathlib.Core.List.{List, [], _∷_}
 use native.Mathlib.Omega.{arith}
 use lib.Count.{onesIn}
 use lib.Dec.{eqb}
+use lib.Ieee.{Float}
 use lib.ListN.{length, length-append, length-take}
 use Rattle.families.proofs.Tests.{cond-elim}
 use Rattle.log.specs.Coverage.{readingCount, lowestZero, firstMissing}
@@ -17,11 +19,15 @@ use Rattle.job_records.specs.Job.{knownOf}
 use Rattle.job_records.specs.Reader.{Sound}
 use Rattle.job_records.specs.Started.{Started}
 use Rattle.job_records.specs.declared.contents.Job.{Job}
+use Rattle.probe_captures.specs.Masks.{hasEvent}
+use Rattle.probe_captures.specs.declared.extents.Extent.{Extent}
+use Rattle.probe_floats.specs.Pattern.{patternOf}
 use Rattle.job_text.proofs.DecimalLaws.{within, short}
 use Rattle.job_text.proofs.HexLaws.{eight}
 use Rattle.job_text.specs.Digits.{decimal, hexWord}
 use Rattle.job_report.specs.Lines.{named, hexNamed, refusedLine, familyLine, faultLine, passLine}
-use Rattle.job_report.specs.Lines.{writeLine, writeLines, rowLine, rowLines, endingText, endLine, statusLine}
+use Rattle.job_report.specs.Lines.{writeLine, writeLines, rowLine, rowLines, eventLine, gatedLine, eventLines, endingText, endLine, statusLine}
+use Rattle.job_report.specs.Words.{noneText}
 use Rattle.job_report.specs.Report.{runLines, verdictLines, jobLines}
 use Rattle.job_report.specs.Promises.{maxReport}
 use Rattle.run.specs.Replay.{endingOf}
@@ -95,6 +101,28 @@ rows-length : (i : ℕ) (known : List ℕ) → length (rowLines i known) ≤ 43 
 rows-length i [] = omega arith
 rows-length i (k ∷ known) = omega (arith, length-append (rowLine i k) (rowLines (i + 1) known), row-length i k, rows-length (i + 1) known)
 
+volts-length : (came : Bool) (volts : Float) → length (cond came (hexWord (patternOf volts)) noneText) ≤ 8
+volts-length true volts = omega (arith, eight (patternOf volts))
+volts-length false volts = omega arith
+
+event-length : (event : ℕ) (x : Extent) → length (eventLine event x) ≤ 89
+unfolding eventLine
+event-length event x =
+    simp length-append
+    (omega (arith, short event, volts-length (x .came) (x .least), volts-length (x .came) (x .greatest), short (x .between)))
+
+events-length : (gated event : ℕ) (extents : List Extent) → length (eventLines gated event extents) ≤ 89 * length extents
+events-length gated event [] = omega arith
+events-length gated event (x ∷ extents) =
+    let line : length (gatedLine gated event x) ≤ 89 = cond-elim (λ (l : List ℕ). length l ≤ 89) (hasEvent gated event)
+    (λ _. event-length event x) (λ _. omega arith) in
+    omega (
+      arith,
+      length-append (gatedLine gated event x) (eventLines gated (event + 1) extents),
+      line,
+      events-length gated (event + 1) extents,
+    )
+
 ending-length : (ending : Ending) → length (endingText ending) ≤ 4
 ending-length Ending.Exit = omega arith
 ending-length Ending.Log = omega arith
@@ -110,25 +138,35 @@ status-length : (word : ℕ) → length (statusLine word) ≡ 16
 unfolding statusLine
 status-length word = simp length-append (omega (arith, eight word))
 
-run-length : (j : Job) → length (jobRun j .writes) ≤ 170 → length (knownOf j) ≤ 1024 → length (runLines j) ≤ 48188
+run-length : (j : Job) → length (jobRun j .writes) ≤ 170 → length (knownOf j) ≤ 1024 → length (j .probes .extents) ≡ 32 → length (runLines j) ≤ 51036
 unfolding runLines
-run-length j writes rows =
+run-length j writes rows events =
     let r = jobRun j in
     let status = statusOf (withSlot (j .state) (executingSlot (j .state)) (r .slot) (r .flags)) in
     simp length-append
-    (omega (arith, writes-length (r .writes), rows-length 0 (knownOf j), end-length (endingOf (r .slot .mode)) (r .place), status-length status))
+    (omega (
+      arith,
+      writes-length (r .writes),
+      rows-length 0 (knownOf j),
+      events-length (j .probes .masks .gated) 0 (j .probes .extents),
+      events,
+      end-length (endingOf (r .slot .mode)) (r .place),
+      status-length status,
+    ))
 
 -- ---- every report has room in the lent bytes
 
-verdict-length : (j : Job) → Started j → length (knownOf j) ≤ 1024 → (v : Verdict) → length (verdictLines j v) ≤ 48327
-verdict-length j started rows (Verdict.Pass place count writes clocks) =
+verdict-length : (j : Job) → Started j → length (knownOf j) ≤ 1024 → length (j .probes .extents) ≡ 32 → (v : Verdict)
+    → length (verdictLines j v) ≤ 51175
+verdict-length j started rows events (Verdict.Pass place count writes clocks) =
     let pass = passLine (place .0) count writes clocks in
-    omega (arith, length-append pass (runLines j), pass-length (place .0) count writes clocks, run-length j (writes-few j started) rows)
-verdict-length j started rows (Verdict.Fault fault place) = omega (arith, fault-length (faultNumber fault) (place .0))
+    omega (arith, length-append pass (runLines j), pass-length (place .0) count writes clocks, run-length j (writes-few j started) rows events)
+verdict-length j started rows events (Verdict.Fault fault place) = omega (arith, fault-length (faultNumber fault) (place .0))
 
 pub job-length : (j : Job) → Sound j → Started j → length (jobLines j) ≤ maxReport
 unfolding jobLines
 job-length j sound started =
     let rows : length (knownOf j) ≤ 1024 = omega (arith, length-take (j .counts .rows) (j .known), sound .fit .rows) in
     let family = j .state .family in
-    omega (arith, length-append (familyLine family) (verdictLines j (verdictOf j)), family-length family, verdict-length j started rows (verdictOf j))
+    let verdict = verdict-length j started rows (sound .events .1) (verdictOf j) in
+    omega (arith, length-append (familyLine family) (verdictLines j (verdictOf j)), family-length family, verdict)

@@ -1,7 +1,7 @@
 -- What the report promises of its answer (01, "A job, and one report whole").
 use Prim.Native.Nat.{ℕ, _≤_}
 use mathlib.Core.Path.{_≡_}
-use mathlib.Core.List.{List, _++_}
+use mathlib.Core.List.{List, [], _++_}
 use lib.ListN.{length, take, drop}
 use Rattle.isa.specs.declared.addresses.CodeAddress.{CodeAddress}
 use Rattle.audit_verdict.specs.declared.verdicts.Verdict.{Verdict}
@@ -9,7 +9,7 @@ use Rattle.job_records.specs.Reader.{jobReadOf}
 use Rattle.job_records.specs.declared.jobs.JobRead.{JobRead}
 use Rattle.job_report.specs.Lines.{familyLine, passLine}
 use Rattle.job_report.specs.JobScript.{verdictOf}
-use Rattle.job_report.specs.Report.{runLines, reportOf, stepLines}
+use Rattle.job_report.specs.Report.{probeLines, runLines, reportOf, stepLines}
 use Rattle.job_report.specs.Worked.{Worked}
 
 -- the most bytes that a report may have: so many are lent
@@ -32,5 +32,7 @@ pub record Reports (bytes old new : List ℕ) (answer : ℕ) : Type 0 where
   -- and of a passed script the lent bytes tell that run
   pub tells : (place : CodeAddress) (count writes clocks : ℕ) → Passed (jobReadOf bytes) place count writes clocks
       → (let j = jobReadOf bytes .job in take answer new ≡ familyLine (j .state .family) ++ (passLine (place .0) count writes clocks ++ stepLines j))
+  -- a job without a gate has no line on events: 02's ticket 1 leaves its report as it was
+  pub ungated : jobReadOf bytes .job .probes .masks .gated ≡ 0 → probeLines (jobReadOf bytes .job) ≡ []
   -- of the definition, and so of every answer: the worked jobs have these reports
   pub worked : Worked

@@ -171,6 +171,65 @@ pastCodeRamJob =
 abbrev pub pastCodeRamReport : List ℕ
 pastCodeRamReport = codesOf "refused 27 at 20\n"
 
+-- probe captures: a row whose probe floats between its levels releases nothing, a dead gate reads nothing, a row without captures keeps its own masks
+abbrev pub capturesJob : List ℕ
+capturesJob =
+    -- family 2
+    (0x04 ∷ 0x02 ∷ [])
+    -- code: ewait 1 1, exit
+    ++ (0x02 ∷ 0x00 ∷ 0x14 ∷ 0x00 ∷ 0x00 ∷ 0x5f ∷ 0x01 ∷ 0x01 ∷ 0x7f ∷ [])
+    -- 00130c: start slot A at entry point 0, which is place 0
+    ++ (0x02 ∷ 0x0c ∷ 0x13 ∷ 0x00 ∷ 0x00 ∷ 0x03 ∷ 0x00 ∷ 0x00 ∷ 0x00 ∷ [])
+    -- gate of event 1: normal, low 0.8 volts, high 2.0, gain 2, offset 0
+    ++ (0x06 ∷ 0x01 ∷ 0x00 ∷ 0xcd ∷ 0xcc ∷ 0x4c ∷ 0x3f ∷ 0x00 ∷ 0x00 ∷ 0x00 ∷ 0x40 ∷ 0x00 ∷ 0x00 ∷ 0x00 ∷ 0x40 ∷ 0x00 ∷ 0x00 ∷ 0x00 ∷ 0x00 ∷ [])
+    -- gate of event 0: dead, levels NaN, gain 1, offset 0
+    ++ (0x06 ∷ 0x00 ∷ 0x02 ∷ 0x00 ∷ 0x00 ∷ 0xc0 ∷ 0x7f ∷ 0x00 ∷ 0x00 ∷ 0xc0 ∷ 0x7f ∷ 0x00 ∷ 0x00 ∷ 0x80 ∷ 0x3f ∷ 0x00 ∷ 0x00 ∷ 0x00 ∷ 0x00 ∷ [])
+    -- gate of event 3: inverted, low 0.8 volts, high 2.0, gain 1, offset 0; no capture comes
+    ++ (0x06 ∷ 0x03 ∷ 0x01 ∷ 0xcd ∷ 0xcc ∷ 0x4c ∷ 0x3f ∷ 0x00 ∷ 0x00 ∷ 0x00 ∷ 0x40 ∷ 0x00 ∷ 0x00 ∷ 0x80 ∷ 0x3f ∷ 0x00 ∷ 0x00 ∷ 0x00 ∷ 0x00 ∷ [])
+    -- event 1 captured at 0.75, so 1.5 volts, and event 0 at 3.0; a row of 1,000 clocks, whose own masks are lost
+    ++ (0x05 ∷ 0x01 ∷ 0x00 ∷ 0x00 ∷ 0x40 ∷ 0x3f ∷ [])
+    ++ (0x05 ∷ 0x00 ∷ 0x00 ∷ 0x00 ∷ 0x40 ∷ 0x40 ∷ [])
+    ++ (0x01 ∷ 0xe8 ∷ 0x03 ∷ 0x00 ∷ 0x00 ∷ 0x00 ∷ 0x00 ∷ 0x00 ∷ 0x00 ∷ 0x03 ∷ 0x00 ∷ 0x00 ∷ 0x00 ∷ 0x03 ∷ 0x00 ∷ 0x00 ∷ 0x00 ∷ [])
+    -- 640 clocks without captures: both events read 0
+    ++ (0x01 ∷ 0x80 ∷ 0x02 ∷ 0x00 ∷ 0x00 ∷ 0x00 ∷ 0x00 ∷ 0x00 ∷ 0x00 ∷ 0x03 ∷ 0x00 ∷ 0x00 ∷ 0x00 ∷ 0x00 ∷ 0x00 ∷ 0x00 ∷ 0x00 ∷ [])
+    -- event 1 captured at 1.5, so 3.0 volts; a row of 5,000 clocks
+    ++ (0x05 ∷ 0x01 ∷ 0x00 ∷ 0x00 ∷ 0xc0 ∷ 0x3f ∷ [])
+    ++ (0x01 ∷ 0x88 ∷ 0x13 ∷ 0x00 ∷ 0x00 ∷ 0x00 ∷ 0x00 ∷ 0x00 ∷ 0x00 ∷ 0x03 ∷ 0x00 ∷ 0x00 ∷ 0x00 ∷ 0x00 ∷ 0x00 ∷ 0x00 ∷ 0x00 ∷ [])
+    -- end
+    ++ (0x00 ∷ [])
+
+abbrev pub capturesReport : List ℕ
+capturesReport =
+    codesOf "family 2\n"
+    ++ codesOf "verdict 0 place 3 count 2 writes 0 clocks 0\n"
+    ++ codesOf "row 0 known 0 first 0\n"
+    ++ codesOf "row 1 known 2 first 2\n"
+    ++ codesOf "row 2 known 1 first 0\n"
+    ++ codesOf "event 0 least 40400000 greatest 40400000 between 0\n"
+    ++ codesOf "event 1 least 3fc00000 greatest 40400000 between 1\n"
+    ++ codesOf "event 3 least none greatest none between 0\n"
+    ++ codesOf "end exit row 2 used 0\n"
+    ++ codesOf "status 00000003\n"
+
+-- refusals of gates and captures, right after the family: a gate above 31 whose gain is NaN, a dead gate with an infinite gain, and a capture that an end
+-- follows, with a byte after the end and no slot executing
+abbrev pub gateAbove31 : List ℕ
+gateAbove31 =
+    (0x04 ∷ 0x02 ∷ [])
+    ++ (0x06 ∷ 0x20 ∷ 0x00 ∷ 0xcd ∷ 0xcc ∷ 0x4c ∷ 0x3f ∷ 0x00 ∷ 0x00 ∷ 0x00 ∷ 0x40 ∷ 0x00 ∷ 0x00 ∷ 0xc0 ∷ 0x7f ∷ 0x00 ∷ 0x00 ∷ 0x00 ∷ 0x00 ∷ [])
+
+abbrev pub deadWithoutGain : List ℕ
+deadWithoutGain =
+    (0x04 ∷ 0x02 ∷ [])
+    ++ (0x06 ∷ 0x03 ∷ 0x02 ∷ 0x00 ∷ 0x00 ∷ 0xc0 ∷ 0x7f ∷ 0x00 ∷ 0x00 ∷ 0xc0 ∷ 0x7f ∷ 0x00 ∷ 0x00 ∷ 0x80 ∷ 0x7f ∷ 0x00 ∷ 0x00 ∷ 0x00 ∷ 0x00 ∷ [])
+
+abbrev pub captureLeft : List ℕ
+captureLeft =
+    (0x04 ∷ 0x02 ∷ [])
+    ++ (0x06 ∷ 0x03 ∷ 0x00 ∷ 0xcd ∷ 0xcc ∷ 0x4c ∷ 0x3f ∷ 0x00 ∷ 0x00 ∷ 0x00 ∷ 0x40 ∷ 0x00 ∷ 0x00 ∷ 0x80 ∷ 0x3f ∷ 0x00 ∷ 0x00 ∷ 0x00 ∷ 0x00 ∷ [])
+    ++ (0x05 ∷ 0x03 ∷ 0x00 ∷ 0x00 ∷ 0x00 ∷ 0x00 ∷ [])
+    ++ (0x00 ∷ 0x00 ∷ [])
+
 -- the job that was read, and the state that the machine's steps leave of it
 abbrev pub jobIn : List ℕ → Job
 jobIn bytes = jobReadOf bytes .job
@@ -184,6 +243,11 @@ pub record Worked : Type 0 where
   pub high-code : reportOf highCodeJob ≡ highCodeReport
   pub unknown-opcode : reportOf unknownOpcodeJob ≡ unknownOpcodeReport
   pub past-code-ram : reportOf pastCodeRamJob ≡ pastCodeRamReport
+  pub captures : reportOf capturesJob ≡ capturesReport
+  -- 33 comes before 16, and before 24 and 32
+  pub above-31 : reportOf gateAbove31 ≡ codesOf "refused 33 at 2\n"
+  pub without-gain : reportOf deadWithoutGain ≡ codesOf "refused 16 at 2\n"
+  pub capture-left : reportOf captureLeft ≡ codesOf "refused 33 at 27\n"
   -- no report tells the flags: memory is paused when slot B starts and not when it is done, and FLAGS then read so
   pub paused : (pausedOf 2 (jobIn slotBJob .state .flags) ≡ true) × (pausedOf 2 (stateLeft slotBJob .flags) ≡ false)
   pub flags-0 : readOf (stateLeft slotBJob) (record { 0 = 0x001310 }) ≡ ReadAnswer.Word 0x00050000

@@ -16,13 +16,13 @@ use Rattle.job_records.specs.Reader.{jobReadOf}
 use Rattle.job_records.specs.declared.contents.Job.{Job}
 use Rattle.job_records.specs.declared.jobs.JobRead.{JobRead}
 use Rattle.job_report.specs.Lines.{refusedLine, writeLines, rowLines}
-use Rattle.job_report.specs.Report.{lastLines, runLines, jobLines, reportOf, stepLines}
+use Rattle.job_report.specs.Report.{probeLines, lastLines, runLines, jobLines, reportOf, stepLines}
 use Rattle.job_report.specs.Promises.{maxReport, Reports}
 use Rattle.job_report.specs.JobScript.{verdictOf, jobRun}
 use Rattle.job_output.specs.Inside.{pairLines, RunsScript, ReadyToRun, RanJob}
 use Rattle.job_text.proofs.PutLaws.{both-stored, all-stored, stored-as}
 use Rattle.job_report.proofs.Lengths.{refused-length, job-length}
-use Rattle.job_report.proofs.JobRuns.{follows-steps, tells-steps}
+use Rattle.job_report.proofs.JobRuns.{no-gates, follows-steps, tells-steps}
 use Rattle.job_report.proofs.Worked.{worked}
 use Rattle.job_output.proofs.LineLaws.{pairs-writes, fault-lines, pass-lines}
 use Rattle.job_output.proofs.ScriptLaws.{part-length, bounds-room, lent-room, lent-verdict, lent-run}
@@ -47,6 +47,7 @@ reports bytes old e fits size h follows =
       counted = (omega (arith, w .0), told, kept);
       follows = follows;
       tells = λ place count writes clocks p. told ∙ tells-steps bytes p (follows (p .faultless));
+      ungated = no-gates (jobReadOf bytes .job);
       worked = worked;
     }
 
@@ -206,10 +207,18 @@ put-known-requires c κs =
     let r = ran-at (answered (verdict-put (column .before .before))) in
     ready (at-run r) .sound .within .1
 
+put-events-requires : tie.Need-put-events-requires
+put-events-requires c κs =
+    let known = c .before .before in
+    let column = known .before .before .before in
+    let r = ran-at (answered (verdict-put (column .before .before))) in
+    ready (at-run r) .sound .events .1
+
 returns-4 : tie.Need-returns-4
 unfolding runLines
 returns-4 c =
-    let known = c .before .before .before in
+    let events = c .before .before .before in
+    let known = events .before .before .before in
     let column = known .before .before .before in
     let written = column .before .before in
     let first = verdict-put written in
@@ -223,8 +232,11 @@ returns-4 c =
     let at = first .put-verdict2 .result in
     let writes = writeLines (jobRun j .writes) in
     let pairs = ap pairLines (ran-job k .wrote) ∙ pairs-writes (jobRun j .writes) in
-    let run = both-stored d at (writes ++ rowLines 0 (knownOf j)) (lastLines (j .state) (progressOf (jobRun j)))
+    let rows = writes ++ rowLines 0 (knownOf j) in
+    let run = both-stored d at (rows ++ probeLines j) (lastLines (j .state) (progressOf (jobRun j)))
+    (both-stored d at rows (probeLines j)
     (both-stored d at writes (rowLines 0 (knownOf j)) (stored-as _ _ pairs (written .put-writes .ensures)) (known .put-known .ensures))
+    (events .put-events .ensures))
     (stored-as _ _ (ap (lastLines (j .state)) (ran-job k .came)) (c .put-last .ensures)) in
     job-reports e (first .put-verdict2 .ensures .1)
     (stored-as _ _ (pass-lines j (family-is a) (verdict-is a) (told .enum-told .given .1))
@@ -254,5 +266,6 @@ report-spec =
     slice-aggregate-put-writes
     (λ c κs. search needs)
     put-known-requires
+    put-events-requires
     (λ c κs. search needs)
     returns-4)

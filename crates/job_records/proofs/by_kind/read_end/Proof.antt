@@ -17,20 +17,23 @@ start c =
 
 returns : tie.Need-returns
 returns c =
-    let t = c .before in
+    let t = c .before .before in
     let b = start t in
     let number = t .before .shape-number .ensures in
     λ code marks. number
-    ∙ shape-refused (now (b .args .rest)) (b .args .counts) 0 (b .pre) (λ z. c .if1 .taken (number ∙ z)) (stateFrom (b .args .sequencer) code marks)
+    ∙ shape-refused (now (b .args .rest)) (b .args .counts) 0 (b .pre) (λ z. c .if1 .taken (number ∙ z)) (b .args .masks)
+    (stateFrom (b .args .sequencer) code marks)
 
 returns-2 : tie.Need-returns-2
 returns-2 c =
-    let e = c .before .before in
-    let t = e .before in
+    let bytes-after = c .before in
+    let idle = bytes-after .before in
+    let e = idle .before in
+    let t = e .before .before in
     let b = start t in
     let fine : shapeNumber (now (b .args .rest)) 0 (b .args .counts) ≡ 0 = sym (t .before .shape-number .ensures) ∙ e .if1 .left in
-    λ code marks. c .when2 .ensures ∙ simp (c .before .when .ensures, t .some-executes .ensures)
-    (sym (end-own (now (b .args .rest)) (b .args .counts) (b .pre) fine (stateFrom (b .args .sequencer) code marks)))
+    λ code marks. c .when3 .ensures ∙ simp (bytes-after .when2 .ensures, idle .when .ensures, t .some-executes .ensures)
+    (sym (end-own (now (b .args .rest)) (b .args .counts) (b .pre) fine (b .args .masks) (stateFrom (b .args .sequencer) code marks)))
 
 pub read-end-spec : {M : Type 1} → statement M
 read-end-spec =
@@ -39,6 +42,7 @@ read-end-spec =
     (λ c κs. search needs)
     (λ c κs. search needs)
     returns
+    (λ c κs. search needs)
     (λ c κs. search needs)
     (λ c κs. search needs)
     returns-2)

@@ -10,7 +10,7 @@ use Rattle.machine_state.specs.Sequencer.{stateFrom}
 use Rattle.machine_state.specs.declared.state.State.{State}
 use Rattle.job_records.specs.Inside.{shapeNumber}
 use Rattle.job_records.specs.declared.contents.Counts.{Counts}
-use Rattle.job_records.specs.Words.{byteAt}
+use Rattle.words.specs.Numbers.{byteAt}
 use Rattle.job_records.proofs.KindTests.{shape-refused, unstored, family-fits, family-own, family-stored}
 use borrow.Author.Needs.{needs}
 use Rattle.job_records.proofs.by_kind.read_family.Statement.{statement}
@@ -38,7 +38,7 @@ returns c =
     let b = t .before .before in
     let number = t .shape-number .ensures in
     record {
-      tested = number ∙ shape-refused (now (b .args .rest)) (b .args .counts) 4 (b .pre) (λ z. c .if1 .taken (number ∙ z)) (state b);
+      tested = λ m. number ∙ shape-refused (now (b .args .rest)) (b .args .counts) 4 (b .pre) (λ z. c .if1 .taken (number ∙ z)) m (state b);
       state = unstored (t .shape-number .result) _ (state b) (c .if1 .taken);
     }
 
@@ -50,7 +50,7 @@ returns-2 c =
     let e = c .before .before .before in
     let unknown : knownFamily (byteAt (rest e) 1) ≡ false = sym (c .before .known-family .ensures) ∙ not-true _ (c .if2 .taken) in
     record {
-      tested = sym (family-own (rest e) (counts e) (start e .pre) (fine e) (state (start e)) ∙ rw unknown);
+      tested = λ m. sym (family-own (rest e) (counts e) (start e .pre) (fine e) m (state (start e)) ∙ rw unknown);
       state = refl;
     }
 
@@ -67,7 +67,7 @@ returns-3 c =
     let e = taken t in
     let known : knownFamily (byteAt (rest e) 1) ≡ true = sym (t .before .known-family .ensures) ∙ not-false _ (t .if2 .left) in
     record {
-      tested = sym (family-own (rest e) (counts e) (start e .pre) (fine e) (state (start e)) ∙ rw known);
+      tested = λ m. sym (family-own (rest e) (counts e) (start e .pre) (fine e) m (state (start e)) ∙ rw known);
       state = family-stored (rest e) (state (start e)) (start e .pre) known (c .fresh-sequencer .ensures);
     }
 

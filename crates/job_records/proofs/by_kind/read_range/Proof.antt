@@ -10,7 +10,7 @@ use lib.ListN.{length}
 use borrow.Author.Tests.{lt-ltb, le-ltb}
 use Rattle.job_records.specs.Inside.{shapeNumber}
 use Rattle.job_records.specs.declared.contents.Counts.{Counts}
-use Rattle.job_records.specs.Words.{wordAt}
+use Rattle.words.specs.Numbers.{wordAt}
 use Rattle.job_records.proofs.KindTests.{shape-refused, unstored, range-fits, range-own, range-stored}
 use borrow.Author.Needs.{needs}
 use Rattle.job_records.proofs.by_kind.read_range.Statement.{statement}
@@ -45,7 +45,7 @@ returns c =
     let b = t .before .before in
     let number = t .shape-number .ensures in
     record {
-      tested = λ s. number ∙ shape-refused (now (b .args .rest)) (b .args .counts) 3 (b .pre) (λ z. c .if1 .taken (number ∙ z)) s;
+      tested = λ m s. number ∙ shape-refused (now (b .args .rest)) (b .args .counts) 3 (b .pre) (λ z. c .if1 .taken (number ∙ z)) m s;
       bounds = unstored (t .shape-number .result) _ _ (c .if1 .taken);
     }
 
@@ -65,7 +65,7 @@ returns-2 c =
       l .word-in2 .ensures,
       l .before .word-in .ensures,
     )) in
-    record { tested = λ s. sym (range-own (rest e) (counts e) (start e .pre) (fine e) s ∙ rw below); bounds = refl }
+    record { tested = λ m s. sym (range-own (rest e) (counts e) (start e .pre) (fine e) m s ∙ rw below); bounds = refl }
 
 mul-bounds : tie.Need-mul-bounds
 mul-bounds c = omega (arith, room (taken c))
@@ -102,7 +102,7 @@ returns-3 c =
       last,
     )) in
     record {
-      tested = λ s. sym (range-own (rest e) (counts e) is (fine e) s ∙ rw above);
+      tested = λ m s. sym (range-own (rest e) (counts e) is (fine e) m s ∙ rw above);
       bounds = range-stored (rest e) _ (counts e .ranges) is first last;
     }
 

@@ -10,7 +10,8 @@ use borrow.Author.Tests.{not-true, not-false}
 use Rattle.log.specs.Validity.{clocksInRange}
 use Rattle.job_records.specs.Inside.{shapeNumber}
 use Rattle.job_records.specs.declared.contents.Counts.{Counts}
-use Rattle.job_records.specs.Words.{longAt}
+use Rattle.words.specs.Numbers.{longAt}
+use Rattle.probe_captures.specs.Masks.{rowKnown, rowValues}
 use Rattle.job_records.proofs.KindTests.{shape-refused, unstored, row-fits, row-own, row-stored}
 use borrow.Author.Needs.{needs}
 use Rattle.job_records.proofs.by_kind.read_row.Statement.{statement}
@@ -49,10 +50,11 @@ returns c =
     let n = t .shape-number .result in
     let number = t .shape-number .ensures in
     record {
-      tested = λ s. number ∙ shape-refused (now (b .args .rest)) (b .args .counts) 1 (b .pre) (λ z. c .if1 .taken (number ∙ z)) s;
+      tested = λ m s. number ∙ shape-refused (now (b .args .rest)) (b .args .counts) 1 (b .pre) (λ z. c .if1 .taken (number ∙ z)) m s;
       clocks = unstored n _ _ (c .if1 .taken);
       known = unstored n _ _ (c .if1 .taken);
       values = unstored n _ _ (c .if1 .taken);
+      masks = unstored n _ _ (c .if1 .taken);
     }
 
 long-in-requires : tie.Need-long-in-requires
@@ -64,10 +66,11 @@ returns-2 c =
     let out : clocksInRange (longAt (rest e) 1) ≡ false =
     sym (c .before .clocks-in-range .ensures ∙ ap clocksInRange (c .before .before .long-in .ensures)) ∙ not-true _ (c .if2 .taken) in
     record {
-      tested = λ s. sym (row-own (rest e) (counts e) (start e .pre) (fine e) s ∙ rw out);
+      tested = λ m s. sym (row-own (rest e) (counts e) (start e .pre) (fine e) m s ∙ rw out);
       clocks = refl;
       known = refl;
       values = refl;
+      masks = refl;
     }
 
 mul-clocks : tie.Need-mul-clocks
@@ -79,35 +82,46 @@ element-write-clocks c = room (taken c)
 word-in-requires : tie.Need-word-in-requires
 word-in-requires c κs = omega (arith, row-bytes (taken c))
 
+-- from the masks that the row has, up to where the clocks were found in range
+abbrev known-made : tie.After-row-known → tie.Else2
+known-made c = c .before .before
+
+abbrev values-made : tie.After-row-values → tie.After-row-known
+values-made c = c .before .before
+
 mul-known : tie.Need-mul-known
-mul-known c = omega (arith, room (taken (c .before)))
+mul-known c = omega (arith, room (taken (known-made c)))
 
 element-write-known : tie.Need-element-write-known
-element-write-known c = room (taken (c .before))
+element-write-known c = room (taken (known-made c))
 
 word-in-requires-2 : tie.Need-word-in-requires-2
-word-in-requires-2 c κs = omega (arith, row-bytes (taken (c .before)))
+word-in-requires-2 c κs = omega (arith, row-bytes (taken (known-made c)))
 
 mul-values : tie.Need-mul-values
-mul-values c = omega (arith, room (taken (c .before .before)))
+mul-values c = omega (arith, room (taken (known-made (values-made c))))
 
 element-write-values : tie.Need-element-write-values
-element-write-values c = room (taken (c .before .before))
+element-write-values c = room (taken (known-made (values-made c)))
 
 returns-3 : tie.Need-returns-3
 returns-3 c =
-    let t = c .before .before in
+    let v = c .before in
+    let k = values-made v in
+    let t = known-made k in
     let e = taken t in
     let is = start e .pre in
     let n = counts e .rows in
+    let m = start e .args .masks in
     let long = t .before .before .long-in .ensures in
     let in-range : clocksInRange (longAt (rest e) 1) ≡ true =
     sym (t .before .clocks-in-range .ensures ∙ ap clocksInRange long) ∙ not-false _ (t .if2 .left) in
     record {
-      tested = λ s. sym (row-own (rest e) (counts e) is (fine e) s ∙ rw in-range);
+      tested = λ m s. sym (row-own (rest e) (counts e) is (fine e) m s ∙ rw in-range);
       clocks = row-stored (rest e) _ n _ is long;
-      known = row-stored (rest e) _ n _ is (c .before .word-in .ensures);
-      values = row-stored (rest e) _ n _ is (c .word-in2 .ensures);
+      known = row-stored (rest e) _ n _ is (k .row-known .ensures .answered ∙ ap (rowKnown m) (k .before .word-in .ensures));
+      values = row-stored (rest e) _ n _ is (v .row-values .ensures .answered ∙ ap (rowValues m) (v .before .word-in2 .ensures));
+      masks = c .after-row .ensures .answered;
     }
 
 pub read-row-spec : {M : Type 1} → statement M
@@ -122,9 +136,12 @@ read-row-spec =
     mul-clocks
     element-write-clocks
     word-in-requires
+    (λ c κs. search needs)
     mul-known
     element-write-known
     word-in-requires-2
+    (λ c κs. search needs)
     mul-values
     element-write-values
+    (λ c κs. search needs)
     returns-3)

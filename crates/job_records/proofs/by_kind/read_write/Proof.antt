@@ -40,7 +40,7 @@ returns c =
     let b = t .before .before in
     let number = t .shape-number .ensures in
     record {
-      tested = number ∙ shape-refused (now (b .args .rest)) (b .args .counts) 2 (b .pre) (λ z. c .if1 .taken (number ∙ z)) (state b);
+      tested = λ m. number ∙ shape-refused (now (b .args .rest)) (b .args .counts) 2 (b .pre) (λ z. c .if1 .taken (number ∙ z)) m (state b);
       state = unstored (t .shape-number .result) _ (state b) (c .if1 .taken);
     }
 

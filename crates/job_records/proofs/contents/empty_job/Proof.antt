@@ -8,7 +8,9 @@ use Rattle.job_records.proofs.contents.empty_job.Tie as tie
 
 returns : tie.Need-returns
 unfolding emptyJob
-returns c = simp (c .no-counts .ensures, ap (λ (a : Access). a .state) (c .before .before .fresh-state .ensures .answered))
+returns c =
+    let counted = c .before in
+    simp (c .no-probes .ensures, counted .no-counts .ensures, ap (λ (a : Access). a .state) (counted .before .before .fresh-state .ensures .answered))
 
 pub empty-job-spec : {M : Type 1} → statement M
-empty-job-spec = tie.close (tie.spec (λ c κs. search needs) (λ c κs. search needs) returns)
+empty-job-spec = tie.close (tie.spec (λ c κs. search needs) (λ c κs. search needs) (λ c κs. search needs) returns)

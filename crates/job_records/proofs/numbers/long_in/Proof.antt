@@ -1,5 +1,5 @@
 -- Assumes nothing.
-use Rattle.job_records.specs.Words.{longAt}
+use Rattle.words.specs.Numbers.{longAt}
 use borrow.Author.Needs.{needs}
 use Rattle.job_records.proofs.numbers.long_in.Statement.{statement}
 use Rattle.job_records.proofs.numbers.long_in.Tie as tie

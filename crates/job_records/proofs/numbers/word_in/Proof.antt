@@ -1,5 +1,5 @@
 -- Assumes nothing.
-use Rattle.job_records.specs.Words.{wordAt}
+use Rattle.words.specs.Numbers.{wordAt}
 use borrow.Author.Needs.{needs}
 use Rattle.job_records.proofs.numbers.word_in.Statement.{statement}
 use Rattle.job_records.proofs.numbers.word_in.Tie as tie
