@@ -45,7 +45,7 @@ pub fn agree() {
         replays::agreed(script, &logs::walked_by(script));
     });
     let mut out = [0; REPORT_SIZE];
-    let whole = [jobs::typical(), jobs::full(0x7f)];
+    let whole = [jobs::typical(), jobs::full(0x7f), jobs::captures()];
     for round in 0..JOBS {
         let mut job = whole[round % whole.len()].clone();
         random.pick(&BYTES)(&mut random, &mut job);

@@ -51,6 +51,7 @@ fn report_lines() {
     let failing = jobs::full(0xff);
     reports::line("a full job, fails at the last byte", &failing);
     reports::line("a full job, refused at its end", &full[..full.len() - 1]);
+    reports::line("a job of 4,896 captures", &jobs::captures());
     reports::a_second("typical", &typical, &of_typical);
     reports::a_second("full", &full, &of_full);
 }

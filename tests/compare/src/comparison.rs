@@ -5,6 +5,7 @@ use crate::part::{self, Part};
 use crate::parts::{self, Visitor};
 use crate::programs::Programs;
 use crate::show::grouped;
+use crate::stored;
 use std::time::Instant;
 
 /// What came of the parts so far.
@@ -61,6 +62,7 @@ pub fn run(amounts: &Amounts, threads: usize, counts: bool) -> bool {
     parts::each(amounts, &mut summary);
     if amounts.programs > 0 {
         summary.visit(&Programs {
+            stored: stored::cases(),
             seed: amounts.seed,
             jobs: amounts.programs,
             of: amounts.jobs,

@@ -5,6 +5,7 @@ use crate::part::{Part, Tally};
 use crate::show;
 use crate::shrink::Shrinker;
 use hwsq::Sampled;
+use makers::floats::{beside, pattern};
 use makers::random::Random;
 use second::probe::{self, Calibration, Gate};
 
@@ -13,29 +14,6 @@ const SALT: u64 = 7;
 const NAN: u32 = 0x7fc0_0000;
 /// No reading, as include/hwsq.h numbers it.
 const NONE: u8 = 2;
-/// Positive patterns at edges: zero, subnormals, normals, whole numbers, the largest, infinity, NaNs.
-const EDGES: [u32; 20] = [
-    0x0000_0000,
-    0x0000_0001,
-    0x0000_0002,
-    0x007f_ffff,
-    0x0080_0000,
-    0x0080_0001,
-    0x3380_0000,
-    0x3eff_ffff,
-    0x3f00_0000,
-    0x3f7f_ffff,
-    0x3f80_0000,
-    0x3f80_0001,
-    0x4000_0000,
-    0x4b7f_ffff,
-    0x7f00_0000,
-    0x7f7f_ffff,
-    0x7f80_0000,
-    0x7f80_0001,
-    0x7fc0_0000,
-    0x7fff_ffff,
-];
 
 /// Compares the gates.
 pub struct Gates {
@@ -98,26 +76,6 @@ fn second(case: &Case) -> Sampled {
 
 fn differs(case: &Case) -> bool {
     proved(case) != second(case)
-}
-
-/// Any pattern, an edge of either sign, or a plain small number.
-fn pattern(random: &mut Random) -> u32 {
-    let sign = random.half() & 0x8000_0000;
-    match random.below(4) {
-        0 => random.half(),
-        1 => random.pick(&EDGES) | sign,
-        2 => (random.below(64) as f32 / 16.0).to_bits() | sign,
-        _ => (random.half() & 0x007f_ffff | 0x3f00_0000) ^ sign,
-    }
-}
-
-/// The pattern next to a float's, above it or below.
-fn beside(random: &mut Random, pattern: u32) -> u32 {
-    match random.below(3) {
-        0 => pattern,
-        1 => pattern.wrapping_add(1),
-        _ => pattern.wrapping_sub(1),
-    }
 }
 
 /// Levels at the very volts, next to them, around them, or anywhere.

@@ -61,6 +61,9 @@ impl Part for Jobs {
             Group::Verdict2,
             Group::Verdict3,
             Group::Verdict4,
+            Group::BadProbe,
+            Group::EventVolts,
+            Group::EventBetween,
             Group::JobEnding,
             Group::JobSlot,
         ]
@@ -74,7 +77,7 @@ impl Part for Jobs {
         let job = numbered(self.seed, unit);
         tally.cases += 1;
         let reports = Reports::of(&job);
-        reports.count(tally);
+        reports.count(&job, tally);
         reports.differ().then_some(job)
     }
 

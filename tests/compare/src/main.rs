@@ -18,6 +18,7 @@ mod replays;
 mod show;
 mod shrink;
 mod steps;
+mod stored;
 #[cfg(feature = "misreadings")]
 mod trial;
 mod witnesses;

@@ -21,6 +21,9 @@ pub enum Group {
     Verdict2,
     Verdict3,
     Verdict4,
+    BadProbe,
+    EventVolts,
+    EventBetween,
     JobEnding,
     JobSlot,
     Audit,
@@ -89,6 +92,7 @@ const VERDICTS: &[(u8, &str)] = &[
 /// Families 2 to 4 have all of these; the causes of 9 are refused by a job's parser, and by a witness.
 const SCRIPT_VERDICTS: &[(u8, &str)] = VERDICTS.split_at(9).0;
 const JOB_REFUSALS: &[(u8, &str)] = &[
+    (16, "16"),
     (20, "20"),
     (21, "21"),
     (22, "22"),
@@ -101,6 +105,7 @@ const JOB_REFUSALS: &[(u8, &str)] = &[
     (30, "30"),
     (31, "31"),
     (32, "32"),
+    (33, "33"),
 ];
 const KINDS: &[(u8, &str)] = &[
     (1, "wait"),
@@ -177,6 +182,21 @@ const EXPECTED: &[Expected] = &[
     once(Group::Verdict2, "on family 2", SCRIPT_VERDICTS),
     once(Group::Verdict3, "on family 3", SCRIPT_VERDICTS),
     once(Group::Verdict4, "on family 4", SCRIPT_VERDICTS),
+    often(
+        Group::BadProbe,
+        "33 at",
+        &[(6, "a gate"), (5, "a capture"), (0, "the end")],
+    ),
+    often(
+        Group::EventVolts,
+        "event",
+        &[(0, "none"), (1, "all alike"), (2, "least below greatest")],
+    ),
+    often(
+        Group::EventBetween,
+        "between",
+        &[(0, "0"), (1, "1"), (2, "more")],
+    ),
     often(
         Group::JobEnding,
         "end",

@@ -9,6 +9,7 @@ use crate::pairs::Pairs;
 use crate::part::Part;
 use crate::replays::Replays;
 use crate::steps::Steps;
+use crate::stored::Stored;
 use crate::witnesses::Witnesses;
 
 /// What is done with each part, whose cases are of different types.
@@ -27,6 +28,7 @@ pub fn each(amounts: &Amounts, visitor: &mut impl Visitor) {
         seed,
         scripts: amounts.scripts,
     });
+    visitor.visit(&Stored::all());
     visitor.visit(&Jobs {
         seed,
         jobs: amounts.jobs,

@@ -1,9 +1,10 @@
-//! A sample of the jobs through the two programs, each job on standard input.
+//! The stored jobs and a sample of the others through the two programs, each job on standard input.
 
 use crate::jobs::{self, Reports};
 use crate::outcomes::Group;
 use crate::part::{Part, Tally};
 use crate::show;
+use crate::stored::Case;
 use std::io::{self, Write};
 use std::process::{Command, Stdio};
 
@@ -13,6 +14,7 @@ const SECOND: &str = "target-rust/release/second";
 
 /// Compares the programs with each other and with the library.
 pub struct Programs {
+    pub stored: Vec<Case>,
     pub seed: u64,
     pub jobs: u64,
     /// How many jobs there are in all; the sample is spread over them.
@@ -62,6 +64,17 @@ fn differs(job: &[u8]) -> bool {
     answers(job).iter().any(|told| *told != expected)
 }
 
+impl Programs {
+    /// The stored jobs first, then the sample.
+    fn job(&self, unit: u64) -> Vec<u8> {
+        if let Some(case) = self.stored.get(unit as usize) {
+            return case.job.clone();
+        }
+        let number = unit - self.stored.len() as u64;
+        jobs::numbered(self.seed, number * (self.of / self.jobs).max(1))
+    }
+}
+
 impl Part for Programs {
     type Case = Vec<u8>;
 
@@ -74,11 +87,11 @@ impl Part for Programs {
     }
 
     fn units(&self) -> u64 {
-        self.jobs
+        self.stored.len() as u64 + self.jobs
     }
 
     fn compare(&self, unit: u64, tally: &mut Tally) -> Option<Vec<u8>> {
-        let job = jobs::numbered(self.seed, unit * (self.of / self.jobs).max(1));
+        let job = self.job(unit);
         tally.cases += 1;
         differs(&job).then_some(job)
     }

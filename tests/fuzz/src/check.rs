@@ -39,7 +39,7 @@ fn well_shaped(length: usize, output: &[u8]) -> bool {
     };
     if text.starts_with("refused") {
         return refusal(text).is_some_and(|(number, offset)| {
-            (20..=32).contains(&number)
+            matches!(number, 16 | 20..=28 | 30..=33)
                 && offset <= length
                 && text == format!("refused {number} at {offset}\n")
         });

@@ -2,6 +2,7 @@
 
 use makers::compose;
 use makers::jobs::damage::{BYTES, DRAFTS, LONGEST, RECORDS};
+use makers::jobs::probes::{self, Probe, EVENTS, MOST_CAPTURES};
 use makers::jobs::records::{self, Record};
 use makers::jobs::Draft;
 use makers::log::{self, Row, MOST_CLOCKS, MOST_ROWS};
@@ -42,7 +43,7 @@ fn worked<'a>(seeds: &'a [Vec<u8>], random: &mut Random) -> &'a [u8] {
     &seeds[random.below(seeds.len())]
 }
 
-/// As many ranges, host writes, register writes and rows as there may be, and the longest lines.
+/// As many ranges, host writes, register writes and rows as there may be, and the longest lines; every other time all gates.
 fn full(random: &mut Random) -> Vec<Record> {
     let ranges = ranges::most(random.half() & 0x00ff_f000);
     let code = compose::pokes(random, &ranges, 512);
@@ -52,7 +53,13 @@ fn full(random: &mut Random) -> Vec<Record> {
         values: random.half(),
     };
     let rows = (0..MOST_ROWS).map(row).collect();
-    Draft::full(&code, ranges, rows).records()
+    let mut draft = Draft::full(&code, ranges, rows);
+    if random.chance(50) {
+        draft.probes = probes::all(random, EVENTS);
+        let captured = MOST_CAPTURES / EVENTS;
+        draft.captures = probes::captures(random, &draft.probes, captured);
+    }
+    draft.records()
 }
 
 /// Damage to what a job says as often as not, and to its records.
@@ -96,7 +103,8 @@ fn spliced(random: &mut Random, seeds: &[Vec<u8>]) -> Vec<u8> {
 
 /// A job made longer to just about the longest that is read, or far past it, by rows or by bytes after its end.
 fn lengthened(random: &mut Random) -> Vec<u8> {
-    let mut records = Draft::random(random).records();
+    let draft = Draft::random(random);
+    let mut records = draft.records();
     let end = records.pop().unwrap_or_default();
     let near = random.between(LONGEST - 40, LONGEST + 40);
     let wanted = if random.chance(70) {
@@ -106,9 +114,12 @@ fn lengthened(random: &mut Random) -> Vec<u8> {
     };
     let mut length: usize = records.iter().map(Vec::len).sum();
     if random.chance(70) {
-        while length + 18 <= wanted {
-            let added = records::row(log::row(random, &[]));
+        loop {
+            let added = captured_row(random, &draft.probes);
             length += added.len();
+            if length + end.len() > wanted {
+                break;
+            }
             records.push(added);
         }
     }
@@ -121,10 +132,18 @@ fn lengthened(random: &mut Random) -> Vec<u8> {
     job
 }
 
+/// A row with captures before it, if there are gates.
+fn captured_row(random: &mut Random, probes: &[Probe]) -> Vec<u8> {
+    let captures = probes::before_row(random, probes);
+    let mut bytes: Vec<u8> = captures.into_iter().flat_map(records::capture).collect();
+    bytes.extend(records::row(log::row(random, &[])));
+    bytes
+}
+
 /// Small bytes alone, so that unlikely orders of records come up.
 fn numbers(random: &mut Random) -> Vec<u8> {
     let count = random.below(120);
-    let mut job: Vec<u8> = (0..count).map(|_| random.below(6) as u8).collect();
+    let mut job: Vec<u8> = (0..count).map(|_| random.below(8) as u8).collect();
     if random.chance(70) {
         job.splice(0..0, records::family(1 + random.below(4) as u8));
     }

@@ -10,7 +10,7 @@ pub struct Tally {
     bytes: u64,
     longest_input: usize,
     longest_report: usize,
-    /// By what a report says: its refusal, its verdict, its ending.
+    /// By what a report says: its refusal, its verdict, its events' volts, its ending.
     said: BTreeMap<String, u64>,
     hangs: u64,
     crashes: u64,
@@ -48,14 +48,23 @@ impl Tally {
     }
 }
 
-/// `refused N`, or `verdict N` and of a pass `end E`.
+/// `refused N`, or `verdict N` and of a pass `end E`, and for each event whether it had volts.
 fn sayings(report: &str) -> Vec<String> {
     if let Some((number, _)) = refusal(report) {
         return vec![format!("refused {number}")];
     }
-    let wanted = |line: &&str| line.starts_with("verdict ") || line.starts_with("end ");
-    let two_words = |line: &str| line.split(' ').take(2).collect::<Vec<_>>().join(" ");
-    report.lines().filter(wanted).map(two_words).collect()
+    report.lines().filter_map(saying).collect()
+}
+
+fn saying(line: &str) -> Option<String> {
+    let (first, rest) = line.split_once(' ')?;
+    let second = rest.split(' ').next()?;
+    match first {
+        "verdict" | "end" => Some(format!("{first} {second}")),
+        "event" if rest.contains("none") => Some("event none".to_string()),
+        "event" => Some("event volts".to_string()),
+        _ => None,
+    }
 }
 
 impl fmt::Display for Tally {

@@ -3,6 +3,7 @@
 pub mod damage;
 mod draft;
 mod making;
+pub mod probes;
 pub mod records;
 
 pub use draft::Draft;

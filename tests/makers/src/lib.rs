@@ -1,6 +1,7 @@
 //! Makers of random scripts, logs and jobs, sound and damaged, for whatever tests the two programs on them.
 
 pub mod compose;
+pub mod floats;
 pub mod jobs;
 pub mod log;
 pub mod random;

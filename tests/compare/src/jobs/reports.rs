@@ -8,6 +8,8 @@ use std::cell::RefCell;
 const LENT: u8 = 0xa5;
 /// Such a buffer, as slices compare faster than bytes.
 static UNTOUCHED: [u8; hwsq::REPORT_SIZE] = [LENT; hwsq::REPORT_SIZE];
+/// The refusal of gates and captures, which three kinds of record have.
+const BAD_PROBE: u8 = 33;
 /// No outcome has this number.
 const STRANGE: u8 = 63;
 
@@ -57,20 +59,21 @@ impl Reports {
         &self.proved
     }
 
-    /// Counts the outcomes that the proved report names.
-    pub fn count(&self, tally: &mut Tally) {
+    /// Counts the outcomes that the proved report on this job names.
+    pub fn count(&self, job: &[u8], tally: &mut Tally) {
         let text = String::from_utf8_lossy(&self.proved);
         let mut family = 0;
         for line in text.lines() {
             let words: Vec<&str> = line.split(' ').collect();
             let number = words.get(1).and_then(|word| word.parse().ok());
             match words[0] {
-                "refused" => tally.count(Group::JobRefusal, number.unwrap_or(STRANGE)),
+                "refused" => count_refusal(&words, job, tally),
                 "family" => family = number.unwrap_or(0),
                 "verdict" => {
                     tally.count(Group::JobVerdict, number.unwrap_or(STRANGE));
                     tally.count(Group::verdicts_of(family), number.unwrap_or(STRANGE));
                 }
+                "event" => count_event(&words, tally),
                 "end" => tally.count(Group::JobEnding, ending(words[1])),
                 "status" => count_slot(words[1], tally),
                 "write" | "row" => {}
@@ -92,6 +95,37 @@ impl Reports {
             text(&self.second).trim_end()
         )
     }
+}
+
+/// The refusal, and of 33 the kind of the record that its offset names.
+fn count_refusal(words: &[&str], job: &[u8], tally: &mut Tally) {
+    let &["refused", number, "at", offset] = words else {
+        return tally.count(Group::JobRefusal, STRANGE);
+    };
+    let number = number.parse().unwrap_or(STRANGE);
+    tally.count(Group::JobRefusal, number);
+    if number == BAD_PROBE {
+        let kind = offset.parse().ok().and_then(|at: usize| job.get(at));
+        tally.count(Group::BadProbe, kind.copied().unwrap_or(STRANGE));
+    }
+}
+
+/// What volts an event had, and how many of them were no reading for lying between the levels.
+fn count_event(words: &[&str], tally: &mut Tally) {
+    let &["event", _, "least", least, "greatest", greatest, "between", between] = words else {
+        return tally.count(Group::EventVolts, STRANGE);
+    };
+    let volts = match (least, greatest) {
+        ("none", "none") => 0,
+        ("none", _) | (_, "none") => STRANGE,
+        _ if least == greatest => 1,
+        _ => 2,
+    };
+    tally.count(Group::EventVolts, volts);
+    let between = between
+        .parse()
+        .map_or(STRANGE, |count: u64| count.min(2) as u8);
+    tally.count(Group::EventBetween, between);
 }
 
 fn ending(word: &str) -> u8 {

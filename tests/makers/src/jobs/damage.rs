@@ -3,8 +3,12 @@
 // All damages of one list have one type.
 #![allow(clippy::ptr_arg)]
 
+mod probes;
+
 use super::draft::Draft;
+use super::probes::{Capture, Probe};
 use super::records::{self, Record, MOST_RANGES, MOST_WRITES};
+use crate::floats;
 use crate::log;
 use crate::random::Random;
 use crate::ranges;
@@ -13,15 +17,15 @@ use crate::registers::{self, CODE, CONTROL, TRIGGER};
 /// Most bytes of a job.
 pub const LONGEST: usize = 32_768;
 /// Kinds, opcodes and bounds.
-const BOUNDS: [u8; 16] = [
-    0, 1, 2, 3, 4, 5, 0x1f, 0x20, 0x40, 0x42, 0x5f, 0x7f, 0x80, 0xb0, 0xe0, 0xff,
+const BOUNDS: [u8; 17] = [
+    0, 1, 2, 3, 4, 5, 6, 0x1f, 0x20, 0x40, 0x42, 0x5f, 0x7f, 0x80, 0xb0, 0xe0, 0xff,
 ];
 
 /// A way to damage something; a list of records is not empty.
 pub type Damage<T> = fn(&mut Random, &mut T);
 
 /// Damages to what the job says.
-pub const DRAFTS: [Damage<Draft>; 11] = [
+pub const DRAFTS: [Damage<Draft>; 20] = [
     bad_family,
     swapped_range,
     no_register,
@@ -33,10 +37,19 @@ pub const DRAFTS: [Damage<Draft>; 11] = [
     many_writes,
     many_rows,
     after_end,
+    probes::ungated,
+    probes::captured_above,
+    probes::captured_twice,
+    probes::trailing,
+    probes::second_gate,
+    probes::no_gate,
+    probes::gate_above,
+    probes::forbidden,
+    probes::all_gated,
 ];
 
 /// Damages to the order and number of records.
-pub const RECORDS: [Damage<Vec<Record>>; 10] = [
+pub const RECORDS: [Damage<Vec<Record>>; 11] = [
     second_family,
     moved,
     dropped,
@@ -47,6 +60,7 @@ pub const RECORDS: [Damage<Vec<Record>>; 10] = [
     repeated,
     exchanged,
     replaced,
+    probes::moved_gate,
 ];
 
 /// Damages to the bytes.
@@ -140,6 +154,7 @@ fn many_rows(random: &mut Random, draft: &mut Draft) {
         } else {
             log::row(random, &[])
         });
+        probes::capture_before(random, draft, log::MOST_ROWS);
     }
 }
 
@@ -177,7 +192,7 @@ fn dropped(random: &mut Random, list: &mut Vec<Record>) {
 }
 
 fn unknown_kind(random: &mut Random, list: &mut Vec<Record>) {
-    let kind = random.pick(&[5, 6, 7, 0x10, 0x7f, 0x80, 0xff]);
+    let kind = random.pick(&[7, 8, 9, 0x10, 0x7f, 0x80, 0xff]);
     list.insert(random.below(list.len() + 1), vec![kind]);
 }
 
@@ -188,10 +203,12 @@ fn shuffled(random: &mut Random, list: &mut Vec<Record>) {
 
 /// A record that is at fault by itself, wherever it stands.
 fn bad_record(random: &mut Random) -> Record {
-    match random.below(4) {
+    match random.below(6) {
         0 => records::family(5),
         1 => records::range((5, 4)),
         2 => records::write((0x1308, 0)),
+        3 => probes::bad_gate(random),
+        4 => probes::bad_capture(random),
         _ => records::row(log::bad_row(random)),
     }
 }
@@ -232,11 +249,17 @@ fn exchanged(random: &mut Random, list: &mut Vec<Record>) {
 /// Any record in the place of another.
 fn replaced(random: &mut Random, list: &mut Vec<Record>) {
     let at = random.below(list.len());
-    list[at] = match random.below(5) {
+    let event = random.below(4) as u8;
+    list[at] = match random.below(7) {
         0 => records::family(random.below(6) as u8),
         1 => records::range((random.edgy(), random.edgy())),
         2 => records::write((registers::random(random), random.edgy())),
         3 => records::row(log::row(random, &[])),
+        4 => records::gate(Probe::random(random, event).gate),
+        5 => records::capture(Capture {
+            event,
+            raw: floats::pattern(random),
+        }),
         _ => vec![random.pick(&BOUNDS)],
     };
 }

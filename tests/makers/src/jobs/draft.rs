@@ -1,5 +1,6 @@
 //! A sound job before it is bytes.
 
+use super::probes::{self, Capture, Probe};
 use super::records::{self, Record, MOST_WRITES};
 use crate::compose;
 use crate::log::{Log, Row};
@@ -10,11 +11,17 @@ use crate::registers::{
 };
 use crate::upload::{word, Upload};
 
+/// How many times in a hundred a job has gates.
+const GATED: usize = 35;
+
 /// What a job says, record by record.
 pub struct Draft {
     pub family: u8,
     pub ranges: Vec<Range>,
     pub writes: Vec<(u32, u32)>,
+    pub probes: Vec<Probe>,
+    /// Those before each row; what comes after the last row's stands before the end.
+    pub captures: Vec<Vec<Capture>>,
     pub rows: Vec<Row>,
     /// Bytes behind the end.
     pub after: Vec<u8>,
@@ -31,11 +38,19 @@ impl Draft {
         registers(random, family, script.at as u32, number, &mut writes);
         random.shuffle(&mut writes);
         start(random, number, &mut writes);
+        let rows = Log::fitting(random, &script.waits()).rows;
+        let probes = if random.chance(GATED) {
+            probes::random(random)
+        } else {
+            vec![]
+        };
         Draft {
             family,
             ranges,
             writes,
-            rows: Log::fitting(random, &script.waits()).rows,
+            captures: probes::captures(random, &probes, rows.len()),
+            probes,
+            rows,
             after: vec![],
         }
     }
@@ -53,6 +68,8 @@ impl Draft {
             family: 4,
             ranges,
             writes,
+            probes: vec![],
+            captures: vec![],
             rows,
             after: vec![],
         }
@@ -63,7 +80,12 @@ impl Draft {
         let mut list = vec![records::family(self.family)];
         list.extend(self.ranges.iter().copied().map(records::range));
         list.extend(self.writes.iter().copied().map(records::write));
-        list.extend(self.rows.iter().copied().map(records::row));
+        list.extend(self.probes.iter().map(|probe| records::gate(probe.gate)));
+        for at in 0..self.rows.len().max(self.captures.len()) {
+            let captures = self.captures.get(at).into_iter().flatten();
+            list.extend(captures.copied().map(records::capture));
+            list.extend(self.rows.get(at).copied().map(records::row));
+        }
         list.push(vec![records::END]);
         list.extend(self.after.iter().map(|&byte| vec![byte]));
         list

@@ -1,5 +1,6 @@
 //! Records of a job as bytes.
 
+use super::probes::{Capture, Gate, EVENTS};
 use crate::log::{Row, MOST_ROWS};
 
 /// A kind with its body.
@@ -10,14 +11,16 @@ pub const ROW: u8 = 1;
 pub const WRITE: u8 = 2;
 pub const RANGE: u8 = 3;
 pub const FAMILY: u8 = 4;
+pub const CAPTURE: u8 = 5;
+pub const GATE: u8 = 6;
 
 pub const MOST_RANGES: usize = 64;
 pub const MOST_WRITES: usize = 512;
 
-/// Body lengths of kinds 0 to 4.
-const BODIES: [usize; 5] = [0, 16, 8, 8, 1];
-/// Most records of each kind.
-const MOST: [usize; 5] = [1, MOST_ROWS, MOST_WRITES, MOST_RANGES, 1];
+/// Body lengths of kinds 0 to 6.
+const BODIES: [usize; 7] = [0, 16, 8, 8, 1, 5, 18];
+/// Most records of each kind; of captures, before one row.
+const MOST: [usize; 7] = [1, MOST_ROWS, MOST_WRITES, MOST_RANGES, 1, EVENTS, EVENTS];
 
 /// Most records of the kind that a byte is; one of no kind counts as one that comes once.
 pub fn most_of(kind: u8) -> usize {
@@ -41,6 +44,20 @@ pub fn row(row: Row) -> Record {
     record.extend(row.clocks.to_le_bytes());
     record.extend(row.known.to_le_bytes());
     record.extend(row.values.to_le_bytes());
+    record
+}
+
+pub fn capture(capture: Capture) -> Record {
+    let mut record = vec![CAPTURE, capture.event];
+    record.extend(capture.raw.to_le_bytes());
+    record
+}
+
+pub fn gate(gate: Gate) -> Record {
+    let mut record = vec![GATE, gate.event, gate.gate];
+    for pattern in [gate.low, gate.high, gate.gain, gate.offset] {
+        record.extend(pattern.to_le_bytes());
+    }
     record
 }
 
