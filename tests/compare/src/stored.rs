@@ -1,4 +1,4 @@
-//! Stored jobs, each with its whole report as somebody wrote it down from the papers: both must say just that.
+//! Stored jobs, each with its whole report as somebody wrote it down beforehand: both must say just that.
 
 mod text;
 
