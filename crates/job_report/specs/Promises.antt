@@ -32,7 +32,7 @@ pub record Reports (bytes old new : List ℕ) (answer : ℕ) : Type 0 where
   -- and of a passed script the lent bytes tell that run
   pub tells : (place : CodeAddress) (count writes clocks : ℕ) → Passed (jobReadOf bytes) place count writes clocks
       → (let j = jobReadOf bytes .job in take answer new ≡ familyLine (j .state .family) ++ (passLine (place .0) count writes clocks ++ stepLines j))
-  -- a job without a gate has no line on events: 02's ticket 1 leaves its report as it was
+  -- a job without a gate has no line on events
   pub ungated : jobReadOf bytes .job .probes .masks .gated ≡ 0 → probeLines (jobReadOf bytes .job) ≡ []
   -- of the definition, and so of every answer: the worked jobs have these reports
   pub worked : Worked
