@@ -182,6 +182,7 @@ def main():
             if line.startswith(("old:", "new:")):
                 head, rest = line[:4], line[4:]
                 if is_antt:
+                    rest = CAMEL.sub(lambda m: snake(m.group(0)), rest)
                     rest = re.sub(r"(?<![\w-])[a-z][A-Za-z0-9'-]*(?![\w-])", known, rest)
                 else:
                     rest = turn_rt(rest)

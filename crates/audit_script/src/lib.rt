@@ -1,4 +1,6 @@
 // The auditor of scripts.
+#![tactic(auto)]
+
 mod assess;
 mod auditor;
 

@@ -8,8 +8,8 @@ use lib.Dec.{eqb}
 use lib.ListN.{length, length-append}
 use Rattle.families.specs.Family.{pauses_memory}
 use Rattle.machine_actions.specs.Action.{merge_of}
-use Rattle.log.specs.Log.{Log}
-use Rattle.log.specs.Validity.{valid_place}
+use Rattle.event_log.specs.Log.{Log}
+use Rattle.event_log.specs.Validity.{valid_place}
 use Rattle.machine_flags.specs.Flags.{overrides1, paused_of}
 use Rattle.machine_time.specs.Time.{elapsed_of}
 use Rattle.machine_slot.specs.SlotStep.{data_after, flags_after, effect_of, perform_of}

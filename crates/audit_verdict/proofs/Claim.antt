@@ -8,8 +8,8 @@ use native.Mathlib.Omega.{arith}
 use lib.ListN.{length, get_or}
 use Rattle.families.specs.Family.{code_size, pauses_memory}
 use Rattle.families.proofs.Tests.{both_left, cond_elim}
-use Rattle.log.specs.Log.{Log}
-use Rattle.log.proofs.ValidLaws.{valid_row_start}
+use Rattle.event_log.specs.Log.{Log}
+use Rattle.event_log.proofs.ValidLaws.{valid_row_start}
 use Rattle.machine_state.specs.Slot.{slot_of}
 use Rattle.machine_state.specs.declared.slots.SlotName.{SlotName}
 use Rattle.machine_slot.specs.SlotStep.{perform_of}

@@ -7,8 +7,8 @@ use mathlib.Core.List.{List}
 use native.Mathlib.Omega.{arith}
 use Rattle.families.specs.Family.{code_size}
 use Rattle.machine_actions.specs.declared.actions.Action.{Action}
-use Rattle.log.specs.Log.{Log}
-use Rattle.log.specs.Validity.{valid_log}
+use Rattle.event_log.specs.Log.{Log}
+use Rattle.event_log.specs.Validity.{valid_log}
 use Rattle.machine_flags.specs.declared.flags.Flags.{Flags}
 use Rattle.machine_state.specs.Slot.{is_running, slot_of}
 use Rattle.machine_state.specs.declared.slots.Mode.{Mode}

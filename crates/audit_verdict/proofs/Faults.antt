@@ -8,8 +8,8 @@ use lib.Dec.{lit<}
 use Rattle.isa.specs.declared.reader.Decoded.{Decoded}
 use Rattle.refusals.specs.declared.refusals.Fault.{Fault}
 use Rattle.refusals.specs.declared.refusals.Unreadable.{Unreadable}
-use Rattle.log.specs.Log.{Log}
-use Rattle.log.specs.Validity.{valid_log}
+use Rattle.event_log.specs.Log.{Log}
+use Rattle.event_log.specs.Validity.{valid_log}
 use Rattle.machine_state.specs.Slot.{is_running, slot_of}
 use Rattle.machine_actions.specs.declared.actions.Action.{Action}
 use Rattle.machine_state.specs.declared.slots.SlotName.{SlotName}

@@ -5,7 +5,7 @@ use mathlib.Core.Bool.{Bool, true, false}
 use native.Mathlib.Omega.{arith}
 use Rattle.isa.specs.declared.reader.Decoded.{Decoded}
 use Rattle.refusals.specs.declared.refusals.Unreadable.{Unreadable}
-use Rattle.log.specs.Log.{Log}
+use Rattle.event_log.specs.Log.{Log}
 use Rattle.machine_state.specs.Slot.{is_running}
 use Rattle.machine_time.specs.Time.{elapsed_of}
 use Rattle.machine_slot.specs.SlotStep.{mode_after, ip_after, perform_of, unfetched}

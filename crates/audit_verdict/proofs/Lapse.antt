@@ -7,12 +7,12 @@ use native.Mathlib.Omega.{arith}
 use lib.ListN.{length}
 use borrow.Author.Tests.{eqb-true, eqb-false}
 use Rattle.log_ewaits.specs.Ewait.{ewait_of}
-use Rattle.log.specs.Log.{Log}
-use Rattle.log.specs.Validity.{valid_place}
+use Rattle.event_log.specs.Log.{Log}
+use Rattle.event_log.specs.Validity.{valid_place}
 use Rattle.log_waits.specs.Wait.{wait_of}
 use Rattle.log_ewaits.specs.declared.ewait.Released.{Released}
-use Rattle.log.specs.declared.place.Place.{Place}
-use Rattle.log.proofs.ValidLaws.{row_within}
+use Rattle.event_log.specs.declared.place.Place.{Place}
+use Rattle.event_log.proofs.ValidLaws.{row_within}
 use Rattle.log_waits.proofs.WaitLaws.{cut_at_end}
 use Rattle.machine_time.specs.Time.{elapsed_of, after_ewait}
 use Rattle.machine_slot.specs.SlotStep.{mode_after, effect_of}

@@ -14,8 +14,8 @@ use Rattle.isa.specs.declared.reader.Decoded.{Decoded}
 use Rattle.refusals.specs.declared.refusals.Fault.{Fault}
 use Rattle.refusals.specs.declared.refusals.Unreadable.{Unreadable}
 use Rattle.isa_fetch.proofs.Places.{fetch_lies}
-use Rattle.log.specs.Log.{Log}
-use Rattle.log.specs.declared.row.Row.{Row}
+use Rattle.event_log.specs.Log.{Log}
+use Rattle.event_log.specs.declared.row.Row.{Row}
 use Rattle.log_waits.specs.Left.{left_of}
 use Rattle.log_ewaits.specs.Ewait.{ewait_of, OnReading}
 use Rattle.log_ewaits.specs.declared.ewait.Released.{Released}

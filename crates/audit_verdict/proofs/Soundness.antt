@@ -7,8 +7,8 @@ use mathlib.Core.List.{List, append-nil}
 use native.Mathlib.Omega.{arith}
 use lib.ListN.{length}
 use Rattle.families.specs.Family.{pauses_memory}
-use Rattle.log.specs.Log.{Log}
-use Rattle.log.specs.Validity.{valid_log, valid_place}
+use Rattle.event_log.specs.Log.{Log}
+use Rattle.event_log.specs.Validity.{valid_log, valid_place}
 use Rattle.machine_flags.specs.Flags.{paused_of}
 use Rattle.machine_state.specs.Slot.{is_running}
 use Rattle.machine_state.specs.declared.slots.Mode.{Mode}

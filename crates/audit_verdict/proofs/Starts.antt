@@ -11,8 +11,8 @@ use Rattle.families.specs.Family.{known_family, pauses_memory}
 use Rattle.families.proofs.Tests.{both_left, both_right, bounds}
 use Rattle.isa_fetch.proofs.FetchLaws.{same_fetch}
 use Rattle.isa_fetch.proofs.Places.{size_small}
-use Rattle.log.specs.Log.{Log, log_of}
-use Rattle.log.specs.Validity.{valid_log}
+use Rattle.event_log.specs.Log.{Log, log_of}
+use Rattle.event_log.specs.Validity.{valid_log}
 use Rattle.machine_flags.specs.Flags.{overrides1}
 use Rattle.machine_state.specs.Slot.{has_slot, other_of, slot_of, with_slot}
 use Rattle.machine_state.specs.declared.slots.Mode.{Mode}

@@ -6,7 +6,7 @@ use Rattle.isa.specs.Reader.{decode_of}
 use Rattle.isa.specs.Wait.{wait_clocks}
 use Rattle.isa_fetch.specs.Fetch.{all_marked, fetch_of}
 use Rattle.log_ewaits.specs.Ewait.{has_reading, search_in}
-use Rattle.log.specs.Validity.{valid_log}
+use Rattle.event_log.specs.Validity.{valid_log}
 use Rattle.machine_slot.specs.SlotStep.{perform_of}
 use Rattle.script.specs.Input.{script_fits, ranges_fit}
 use Rattle.run.specs.Replay.{run_answer_of}

@@ -13,9 +13,9 @@ use Rattle.isa.specs.Writer.{opcode_of}
 use Rattle.isa.specs.declared.instructions.Instruction.{Instruction}
 use Rattle.families.proofs.Tests.{both_left, both_right}
 use Rattle.isa_fetch.proofs.Places.{size_small, fetch_lies}
-use Rattle.log.specs.Rows.{row_clocks, row_known, row_values, log_of_rows}
-use Rattle.log.specs.Validity.{rows_in_range, valid_log}
-use Rattle.log.specs.declared.row.Row.{Row}
+use Rattle.event_log.specs.Rows.{row_clocks, row_known, row_values, log_of_rows}
+use Rattle.event_log.specs.Validity.{rows_in_range, valid_log}
+use Rattle.event_log.specs.declared.row.Row.{Row}
 use Rattle.machine_actions.specs.Action.{action_of}
 use Rattle.machine_actions.specs.declared.actions.Action.{Action}
 use Rattle.script.specs.Script.{Script}

@@ -8,10 +8,10 @@ use lib.Dec.{ltb, lit<}
 use lib.ListN.{length, get_or, drop, length-map, length-drop, length-append}
 use borrow.Author.Tests.{ltb-true}
 use Rattle.families.proofs.Tests.{both_left, both_right}
-use Rattle.log.specs.Log.{Log}
-use Rattle.log.specs.Rows.{row_clocks, row_known, row_values, log_of_rows}
-use Rattle.log.specs.declared.place.Place.{Place}
-use Rattle.log.specs.declared.row.Row.{Row}
+use Rattle.event_log.specs.Log.{Log}
+use Rattle.event_log.specs.Rows.{row_clocks, row_known, row_values, log_of_rows}
+use Rattle.event_log.specs.declared.place.Place.{Place}
+use Rattle.event_log.specs.declared.row.Row.{Row}
 use Rattle.log_waits.specs.Left.{left_in, left_of}
 use Rattle.log_waits.proofs.WaitLaws.{wait_in_lem}
 use Rattle.log_ewaits.specs.Ewait.{has_reading, ewait_of}

@@ -1,7 +1,7 @@
 -- The starred scripts of 01, "Scripts on both sides of the line": one table of what auditor and replay say of them.
 use Rattle.std.specs.Prelude.{ℕ, ◌-◌, ◌≡◌, true, List, [], ◌∷◌, ◌++◌, length, replicate}
 use Rattle.families.specs.Family.{code_size}
-use Rattle.log.specs.Log.{log_of}
+use Rattle.event_log.specs.Log.{log_of}
 use Rattle.refusals.specs.Number.{fault_number}
 use Rattle.script.specs.Script.{Script, script_of}
 use Rattle.run.specs.Registers.{registers_of}

@@ -5,10 +5,10 @@ use Rattle.isa.specs.declared.reader.Decoded.{Decoded}
 use Rattle.refusals.specs.Number.{fault_number}
 use Rattle.refusals.specs.declared.refusals.Fault.{Fault}
 use Rattle.refusals.specs.declared.refusals.Unreadable.{Unreadable}
-use Rattle.log.specs.Log.{Log}
-use Rattle.log.specs.Rows.{log_of_rows}
-use Rattle.log.specs.Validity.{valid_log}
-use Rattle.log.specs.declared.row.Row.{Row}
+use Rattle.event_log.specs.Log.{Log}
+use Rattle.event_log.specs.Rows.{log_of_rows}
+use Rattle.event_log.specs.Validity.{valid_log}
+use Rattle.event_log.specs.declared.row.Row.{Row}
 use Rattle.log_waits.specs.Left.{left_of}
 use Rattle.log_ewaits.specs.Ewait.{has_reading}
 use Rattle.machine_flags.specs.Flags.{paused_of}

@@ -1,6 +1,6 @@
 -- The logs of worked scripts (docs/LIBRARY.md): a first row, and one for each ewait that the row before it does not release, in order.
 use Rattle.std.specs.Prelude.{ℕ, zero, suc, ◌≡◌, List, [], ◌∷◌, length}
-use Rattle.log.specs.declared.row.Row.{Row}
+use Rattle.event_log.specs.declared.row.Row.{Row}
 use Rattle.machine_actions.specs.declared.actions.Action.{Action}
 use Rattle.audit_verdict.specs.Starred.{script_on, verdict_on, everything}
 use Rattle.audit_verdict.specs.Witness.{first_row, rows_over, writes_over, way_to, max_shown}

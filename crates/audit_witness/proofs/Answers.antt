@@ -10,9 +10,9 @@ use lib.ListN.{length, length-map}
 use borrow.Author.Tests.{le-leb, lt-leb, eqb-true}
 use Rattle.refusals.specs.declared.refusals.Fault.{Fault}
 use Rattle.refusals.specs.declared.refusals.Unshowable.{Unshowable}
-use Rattle.log.specs.Log.{Log}
-use Rattle.log.specs.declared.row.Row.{Row}
-use Rattle.log.proofs.Columns.{Room, rows_first}
+use Rattle.event_log.specs.Log.{Log}
+use Rattle.event_log.specs.declared.row.Row.{Row}
+use Rattle.event_log.proofs.Columns.{Room, rows_first}
 use Rattle.script.specs.Script.{Script}
 use Rattle.script.specs.Input.{input_fits}
 use Rattle.audit_verdict.specs.Auditor.{verdict_number, audit_of}

@@ -14,10 +14,10 @@ use Rattle.isa.specs.declared.reader.Decoded.{Decoded}
 use Rattle.families.proofs.Tests.{both_left}
 use Rattle.refusals.specs.declared.refusals.Unreadable.{Unreadable}
 use Rattle.isa_fetch.proofs.Places.{size_small}
-use Rattle.log.specs.Log.{Log}
-use Rattle.log.specs.Rows.{rows_into, with_rows_at}
-use Rattle.log.specs.declared.row.Row.{Row}
-use Rattle.log.proofs.Columns.{Room, SameLengths, rows_lengths, rows_more}
+use Rattle.event_log.specs.Log.{Log}
+use Rattle.event_log.specs.Rows.{rows_into, with_rows_at}
+use Rattle.event_log.specs.declared.row.Row.{Row}
+use Rattle.event_log.proofs.Columns.{Room, SameLengths, rows_lengths, rows_more}
 use Rattle.machine_actions.specs.Action.{action_of}
 use Rattle.machine_actions.specs.declared.actions.Action.{Action}
 use Rattle.machine_actions.specs.declared.actions.Part.{Part}

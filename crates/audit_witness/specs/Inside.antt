@@ -1,8 +1,8 @@
 -- The log as far as it is made. Private functions cite it; no public contract does.
 use Rattle.std.specs.Prelude.{ℕ, ◌+◌, ◌≡◌, List, length, set}
-use Rattle.log.specs.Log.{Log, log_of}
-use Rattle.log.specs.Rows.{rows_into, with_rows_at}
-use Rattle.log.specs.declared.row.Row.{Row}
+use Rattle.event_log.specs.Log.{Log, log_of}
+use Rattle.event_log.specs.Rows.{rows_into, with_rows_at}
+use Rattle.event_log.specs.declared.row.Row.{Row}
 use Rattle.machine_actions.specs.declared.actions.Action.{Action}
 use Rattle.audit_verdict.specs.Auditor.{poke_count}
 use Rattle.audit_verdict.specs.Witness.{first_row, row_after, rows_ended, rows_over, writes_over}

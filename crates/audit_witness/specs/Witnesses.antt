@@ -2,9 +2,9 @@
 use Rattle.std.specs.Prelude.{ℕ, ◌≡◌, Bool, cond, not, ◌&&◌, List, leb, length}
 use Rattle.refusals.specs.Number.{unshowable_number}
 use Rattle.refusals.specs.declared.refusals.Unshowable.{Unshowable}
-use Rattle.log.specs.Log.{Log}
-use Rattle.log.specs.Rows.{rows_into, first_rows}
-use Rattle.log.specs.declared.row.Row.{Row}
+use Rattle.event_log.specs.Log.{Log}
+use Rattle.event_log.specs.Rows.{rows_into, first_rows}
+use Rattle.event_log.specs.declared.row.Row.{Row}
 use Rattle.machine_actions.specs.declared.actions.Action.{Action}
 use Rattle.script.specs.Script.{Script}
 use Rattle.script.specs.Input.{input_fits}

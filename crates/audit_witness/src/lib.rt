@@ -1,4 +1,6 @@
 // The verdict on a script, and a log that shows it from every start.
+#![tactic(auto)]
+
 mod rows;
 mod showing;
 

@@ -1,11 +1,11 @@
 // The log as it is made, one instruction after the other.
 ghost use Rattle.std.specs.Prelude.{◌≡◌, true, ◌+◌, ◌^◌, ◌<◌, length};
-ghost use Rattle.log.specs.Log.{log_of};
+ghost use Rattle.event_log.specs.Log.{log_of};
 ghost use Rattle.audit_verdict.specs.Auditor.{Releasable, can_release, wait_length};
 ghost use Rattle.audit_verdict.specs.Witness.{event_row, row_after};
 ghost use Rattle.audit_witness.specs.Inside.{with_row, timeline_of, nothing_made, Extends};
 
-use log::Row;
+use event_log::Row;
 use machine_actions::Action;
 
 // The log as far as it is made: the present row, how many rows stand before it, and the steps and writes up to here.

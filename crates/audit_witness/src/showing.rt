@@ -1,6 +1,6 @@
 // The verdict, and the script's way to its place, written down as a log.
 ghost use Rattle.std.specs.Prelude.{◌≡◌, true, ◌≤◌, eqb, length};
-ghost use Rattle.log.specs.Log.{log_of};
+ghost use Rattle.event_log.specs.Log.{log_of};
 ghost use Rattle.script.specs.Script.{script_of};
 ghost use Rattle.script.specs.Input.{input_fits};
 ghost use Rattle.audit_verdict.specs.Auditor.{verdict_number, audit_of};

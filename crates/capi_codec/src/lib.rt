@@ -1,5 +1,7 @@
 // The facts of the families, and the instruction reader and writer, under C names. Each call passes on what the calls below it
 // promise, with its answer as a struct of numbers.
+#![tactic(auto)]
+
 mod decoding;
 mod encoding;
 mod facts;

@@ -1,7 +1,7 @@
 -- One step of a slot, as numbers.
 use Rattle.std.specs.Prelude.{ℕ, ◌≡◌, cond, eqb}
 use Rattle.refusals.specs.Number.{unreadable_number, unsteppable_number}
-use Rattle.log.specs.Log.{Log}
+use Rattle.event_log.specs.Log.{Log}
 use Rattle.machine_state.specs.declared.slots.SlotName.{SlotName}
 use Rattle.machine_slot.specs.declared.slot_steps.Effect.{Effect}
 use Rattle.machine_step.specs.Step.{step_of}

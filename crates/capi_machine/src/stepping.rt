@@ -1,11 +1,11 @@
 // One step of a slot.
 ghost use Rattle.std.specs.Prelude.{◌≡◌};
 ghost use Rattle.capi_machine.specs.Stepping.{slot_numbered, effect_numbers, step_reply, HwsqStep};
-ghost use Rattle.log.specs.Log.{log_of};
+ghost use Rattle.event_log.specs.Log.{log_of};
 
 use capi_state::{StateImage, state_image, state_of_image};
 use isa::MmioAddress;
-use log::Place;
+use event_log::Place;
 use machine_slot::Effect;
 use machine_state::SlotName;
 use machine_step::Stepped;

@@ -2,7 +2,7 @@
 use Prim.Native.Nat.{ℕ}
 use mathlib.Core.Path.{◌≡◌, ap, subst, ◌∙◌}
 use mathlib.Core.List.{List}
-use Rattle.log.specs.Log.{Log}
+use Rattle.event_log.specs.Log.{Log}
 use Rattle.script.specs.Script.{Script}
 use Rattle.run.specs.Registers.{Registers}
 use Rattle.run.specs.Replay.{Replays}

@@ -1,7 +1,7 @@
 -- Replay's answer as numbers.
 use Rattle.std.specs.Prelude.{ℕ, ◌≡◌, List, length}
 use Rattle.refusals.specs.Number.{unreplayable_number}
-use Rattle.log.specs.Log.{Log}
+use Rattle.event_log.specs.Log.{Log}
 use Rattle.script.specs.Script.{Script}
 use Rattle.run.specs.Registers.{Registers}
 use Rattle.run.specs.Replay.{replay_of, Replays}

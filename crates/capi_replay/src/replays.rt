@@ -1,7 +1,7 @@
 // Replay, its answer as numbers.
 ghost use Rattle.std.specs.Prelude.{◌≡◌};
 ghost use Rattle.capi_replay.specs.Replays.{ending_number, ended_reply, unreplayed_reply, replay_reply, HwsqReplay};
-ghost use Rattle.log.specs.Log.{log_of};
+ghost use Rattle.event_log.specs.Log.{log_of};
 ghost use Rattle.run.specs.Registers.{registers_of};
 ghost use Rattle.script.specs.Script.{script_of};
 

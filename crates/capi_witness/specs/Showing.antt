@@ -2,7 +2,7 @@
 use Rattle.std.specs.Prelude.{ℕ, ◌≡◌, List}
 use Rattle.refusals.specs.Number.{fault_number, unshowable_number}
 use Rattle.isa.specs.declared.addresses.CodeAddress.{CodeAddress}
-use Rattle.log.specs.Log.{Log}
+use Rattle.event_log.specs.Log.{Log}
 use Rattle.script.specs.Script.{Script}
 use Rattle.audit_verdict.specs.Witness.{second_addr, second_data}
 use Rattle.audit_verdict.specs.declared.verdicts.Verdict.{Verdict}

@@ -1,6 +1,6 @@
 // The verdict and the log that shows it, as numbers.
 ghost use Rattle.std.specs.Prelude.{◌≡◌, cond};
-ghost use Rattle.log.specs.Log.{log_of};
+ghost use Rattle.event_log.specs.Log.{log_of};
 ghost use Rattle.script.specs.Script.{script_of};
 ghost use Rattle.capi_witness.specs.Showing.{told_reply, shown_reply, unshown_reply, witness_reply, HwsqWitness};
 

@@ -1,5 +1,7 @@
 // What differs from one card family to the next. A number that names no family has no code RAM,
 // no slots and neither property.
+#![tactic(auto)]
+
 ghost use Rattle.std.specs.Prelude.{◌≡◌};
 ghost use Rattle.families.specs.Family.{known_family, code_size, slot_count, unknown_hangs, pauses_memory, highest_entry, by_family, within, FamilyRow, Tells};
 

@@ -1,4 +1,6 @@
 // The host's side of the sequencer: writes and reads of its registers.
+#![tactic(auto)]
+
 mod access;
 mod addresses;
 mod code;

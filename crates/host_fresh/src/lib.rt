@@ -1,4 +1,6 @@
 // A fresh state: the card before the host touched it.
+#![tactic(auto)]
+
 ghost use Rattle.std.specs.Prelude.{◌≡◌, cond};
 ghost use Rattle.families.specs.Family.{known_family};
 ghost use Rattle.machine_state.specs.Sequencer.{sequencer_of};

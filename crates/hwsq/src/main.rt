@@ -1,4 +1,6 @@
 // Reads a job on standard input and writes its report on standard output.
+#![tactic(auto)]
+
 use libc::{STDIN_FILENO, STDOUT_FILENO};
 
 fn main() {

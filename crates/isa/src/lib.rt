@@ -1,5 +1,7 @@
 // The instructions of the hardware sequencer on card families 1 to 4: what they are, how they are spelled and read, and the laws
 // between the two; no code.
+#![tactic(auto)]
+
 mod addresses;
 mod encoding;
 mod instructions;

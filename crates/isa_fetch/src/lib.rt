@@ -1,4 +1,6 @@
 // Fetching an instruction from code RAM: the reader's answer, and whether every byte of it was uploaded.
+#![tactic(auto)]
+
 ghost use Rattle.std.specs.Prelude.{◌≡◌, length, get_or};
 ghost use Rattle.isa_fetch.specs.Fetch.{all_marked, check_marks, code_ram_of, reason_of, past_opcode, Fetches};
 

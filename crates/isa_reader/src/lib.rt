@@ -1,4 +1,6 @@
 // The instruction reader.
+#![tactic(auto)]
+
 mod decoding;
 mod opcodes;
 mod operands;

@@ -1,4 +1,6 @@
 // The writer of the hardware sequencer's instructions.
+#![tactic(auto)]
+
 mod writer;
 
 pub use writer::encode;

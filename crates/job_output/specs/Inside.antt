@@ -1,6 +1,6 @@
 -- What private functions cite; no public contract does.
 use Rattle.std.specs.Prelude.{ℕ, ◌≡◌, List, [], ◌∷◌, ◌++◌}
-use Rattle.log.specs.Log.{Log}
+use Rattle.event_log.specs.Log.{Log}
 use Rattle.refusals.specs.Number.{fault_number}
 use Rattle.machine_state.specs.declared.state.State.{State}
 use Rattle.audit_verdict.specs.declared.verdicts.Verdict.{Verdict}

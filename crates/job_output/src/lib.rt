@@ -1,4 +1,6 @@
 // The report on a job.
+#![tactic(auto)]
+
 mod lines;
 mod reports;
 mod runs;

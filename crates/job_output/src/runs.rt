@@ -2,7 +2,7 @@
 ghost use Rattle.std.specs.Prelude.{◌≡◌, List, ℕ, ◌*◌, ◌≤◌, length, take};
 ghost use Rattle.families.specs.Family.{code_size};
 ghost use Rattle.audit_verdict.specs.Auditor.{audit_of};
-ghost use Rattle.log.specs.Log.{log_of};
+ghost use Rattle.event_log.specs.Log.{log_of};
 ghost use Rattle.script.specs.Input.{max_ranges};
 ghost use Rattle.machine_state.specs.Sequencer.{state_from};
 ghost use Rattle.job_records.specs.Started.{script_in};

@@ -11,7 +11,7 @@ use lib.Seq.{take-suc-set, length-take-le}
 use borrow.Author.Tests.{eqb-true, eqb-false, eq-eqb, ne_eqb, le-leb, ltb-false, not-false}
 use Rattle.families.proofs.Tests.{cond_elim, both_left, both_right}
 use Rattle.host_registers.proofs.HostMade.{HostMade, fresh_made, write_made}
-use Rattle.log.specs.Validity.{clocks_in_range, rows_in_range, valid_log}
+use Rattle.event_log.specs.Validity.{clocks_in_range, rows_in_range, valid_log}
 use Rattle.script.specs.Input.{ranges_paired}
 use Rattle.machine_state.specs.declared.state.State.{State}
 use Rattle.job_records.specs.Job.{CountsFit, one_more_of, counted, empty_job, state_after, bounds_after, column_after, probes_after, after_record}

@@ -9,7 +9,7 @@ use lib.ListN.{length, drop, set, replicate}
 use borrow.Author.Tests.{ltb-false, leb-false, eqb-false, ne_eqb}
 use Rattle.families.specs.Family.{known_family}
 use Rattle.machine_execution.specs.Execution.{some_slot_executes}
-use Rattle.log.specs.Validity.{clocks_in_range}
+use Rattle.event_log.specs.Validity.{clocks_in_range}
 use Rattle.host_registers.specs.Access.{blank_state, write_of}
 use Rattle.host_registers.specs.Promises.{outcome_number, Unmoved, WritesInPlace}
 use Rattle.host_registers.specs.declared.access.Access.{Access}

@@ -8,7 +8,7 @@ use lib.ListN.{length, get_or, take, drop, set, length-drop}
 use lib.Seq.{take_all, set-get_or}
 use borrow.Author.Tests.{eq-eqb, ne_eqb}
 use lib.Dec.{eqb}
-use Rattle.log.specs.Log.{Log, log_of}
+use Rattle.event_log.specs.Log.{Log, log_of}
 use Rattle.machine_state.specs.declared.state.State.{State}
 use Rattle.job_records.specs.Inside.{unless_refused, RangeRead, RowStored, GateStored, CaptureStored}
 use Rattle.job_records.specs.Job.{counted, state_after, bounds_after, column_after, probes_after, after_record}

@@ -1,6 +1,6 @@
 -- What private functions cite; no public contract does.
 use Rattle.std.specs.Prelude.{ℕ, suc, ◌≡◌, cond, List, [], ◌∷◌, eqb, length}
-use Rattle.log.specs.Log.{Log}
+use Rattle.event_log.specs.Log.{Log}
 use Rattle.machine_state.specs.Sequencer.{state_from}
 use Rattle.machine_state.specs.declared.state.State.{State}
 use Rattle.job_records.specs.Job.{empty_job, state_after, bounds_after, column_after}

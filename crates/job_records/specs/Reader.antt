@@ -1,7 +1,7 @@
 -- Reading a job (01, "A job, and one report whole"): each record passes all its tests before the next is read.
 use Rattle.std.specs.Prelude.{ℕ, zero, suc, ◌+◌, ◌≤◌, ◌≡◌, true, cond, List, ltb, eqb, length, drop}
 use Rattle.job_records.specs.Job.{empty_job, after_record, CountsFit, log_in}
-use Rattle.log.specs.Validity.{valid_log}
+use Rattle.event_log.specs.Validity.{valid_log}
 use Rattle.job_records.specs.Records.{end, kind_of}
 use Rattle.job_records.specs.Refusals.{refusal_of}
 use Rattle.job_records.specs.Started.{Started}

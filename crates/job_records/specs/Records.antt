@@ -1,6 +1,6 @@
 -- The kinds of record and their order (01, "A job, and one report whole"; 02, ticket 1).
 use Rattle.std.specs.Prelude.{ℕ, Bool, cond, not, List, [], ◌∷◌, ltb, eqb}
-use Rattle.log.specs.Validity.{max_rows}
+use Rattle.event_log.specs.Validity.{max_rows}
 use Rattle.script.specs.Input.{max_ranges}
 use Rattle.job_records.specs.declared.contents.Counts.{Counts}
 use Rattle.job_records.specs.declared.kinds.Kind.{Kind}

@@ -3,7 +3,7 @@
 use Rattle.std.specs.Prelude.{ℕ, ◌+◌, Bool, cond, not, ◌&&◌, ◌||◌, List, [], ◌∷◌, leb, ltb, eqb, length}
 use Rattle.families.specs.Family.{known_family}
 use Rattle.refusals.specs.Listing.{Test, test, first_of}
-use Rattle.log.specs.Validity.{clocks_in_range}
+use Rattle.event_log.specs.Validity.{clocks_in_range}
 use Rattle.host_registers.specs.Access.{write_of}
 use Rattle.machine_execution.specs.Execution.{some_slot_executes}
 use Rattle.host_registers.specs.Promises.{outcome_number}

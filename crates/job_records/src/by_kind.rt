@@ -2,7 +2,7 @@
 // nothing is stored.
 ghost use Rattle.std.specs.Prelude.{◌≡◌, ℕ, List};
 ghost use Rattle.host_registers.specs.Promises.{outcome_number};
-ghost use Rattle.log.specs.Log.{log_of};
+ghost use Rattle.event_log.specs.Log.{log_of};
 ghost use Rattle.machine_state.specs.Sequencer.{state_from};
 ghost use Rattle.job_records.specs.Records.{family, allowed_range, host_write, row, end};
 ghost use Rattle.job_records.specs.Refusals.{refusal_of};
@@ -138,7 +138,7 @@ pub(crate) fn read_row(
         return RowRead { number, masks };
     }
     let length = long_in(rest, 1);
-    if !log::clocks_in_range(length) {
+    if !event_log::clocks_in_range(length) {
         return RowRead { number: 30, masks };
     }
     let n = counts.rows;

@@ -1,6 +1,6 @@
 // What the records read so far say.
 ghost use Rattle.std.specs.Prelude.{◌≡◌, ◌≤◌};
-ghost use Rattle.log.specs.Validity.{max_rows};
+ghost use Rattle.event_log.specs.Validity.{max_rows};
 ghost use Rattle.job_records.specs.Job.{CountsFit, one_more_of, no_counts, empty_job};
 ghost use Rattle.job_records.specs.Job.{counted as Job·counted};
 

@@ -62,7 +62,7 @@ pub(crate) fn kind_of(byte: u8, counts: Counts) -> Kind
         HOST_WRITE => entry(3, 8, MAX_WRITES, counts.writes),
         GATE => uncounted(4, 18),
         CAPTURE => uncounted(5, 5),
-        ROW => entry(5, 16, log::MAX_ROWS, counts.rows),
+        ROW => entry(5, 16, event_log::MAX_ROWS, counts.rows),
         END => uncounted(6, 0),
         _ => entry(0, 0, 0, 0),
     }

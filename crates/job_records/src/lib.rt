@@ -1,4 +1,6 @@
 // The records of a job: what they may be, in which order they come, and what they say together.
+#![tactic(auto)]
+
 mod by_kind;
 mod by_probe;
 mod contents;

@@ -9,8 +9,8 @@ use lib.Dec.{eqb}
 use lib.Ieee.{Float}
 use lib.ListN.{length, length-append, length-take}
 use Rattle.families.proofs.Tests.{cond_elim}
-use Rattle.log.specs.Coverage.{reading_count, lowest_zero, first_missing}
-use Rattle.log.specs.declared.place.Place.{Place}
+use Rattle.event_log.specs.Coverage.{reading_count, lowest_zero, first_missing}
+use Rattle.event_log.specs.declared.place.Place.{Place}
 use Rattle.refusals.specs.Number.{fault_number}
 use Rattle.run.specs.Run.{Write}
 use Rattle.audit_verdict.specs.declared.verdicts.Verdict.{Verdict}

@@ -7,8 +7,8 @@ use Rattle.isa.specs.Opcode.{opcode_at}
 use Rattle.isa.specs.Reader.{decode_of}
 use Rattle.isa.specs.Wait.{wait_clocks}
 use Rattle.isa_fetch.specs.Fetch.{all_marked, fetch_of}
-use Rattle.log.specs.Validity.{valid_log, valid_place}
-use Rattle.log.specs.Coverage.{lowest_zero}
+use Rattle.event_log.specs.Validity.{valid_log, valid_place}
+use Rattle.event_log.specs.Coverage.{lowest_zero}
 use Rattle.log_waits.specs.Wait.{wait_in}
 use Rattle.log_ewaits.specs.Ewait.{has_reading, search_in}
 use Rattle.machine_flags.specs.Flags.{enables_after, values_after, overrides1}

@@ -1,6 +1,6 @@
 -- The script that a job starts, and its run (01, "A job, and one report whole" and "Demand 3's words").
 use Rattle.std.specs.Prelude.{ℕ}
-use Rattle.log.specs.Log.{log_of}
+use Rattle.event_log.specs.Log.{log_of}
 use Rattle.machine_state.specs.declared.state.State.{State}
 use Rattle.host_registers.specs.Access.{read_of}
 use Rattle.host_registers.specs.declared.access.ReadAnswer.{ReadAnswer}

@@ -3,14 +3,14 @@ use Rattle.std.proofs.Common.{◌≡◌, ℕ, zero, suc, ◌+◌, ◌-◌, ◌%�
 use mathlib.Core.Bool.{and-eq-true_iff}
 use native.Mathlib.Nat.{mod-add-mod}
 use Rattle.log_waits.specs.Left.{left_from, left_of}
-use Rattle.log.specs.Log.{Log}
-use Rattle.log.specs.Validity.{valid_log, valid_place}
+use Rattle.event_log.specs.Log.{Log}
+use Rattle.event_log.specs.Validity.{valid_log, valid_place}
 use Rattle.log_ewaits.specs.Ewait.{has_reading, passing, search_in, search_from, in64, ewait_of}
 use Rattle.words.specs.Bits.{bit_of}
 use Rattle.log_ewaits.specs.Ewait.{passed_by, ReadsAsked, OnReading, FirstFrom, left_after, SameReadings, with_values, Ewaits}
 use Rattle.log_ewaits.specs.declared.ewait.Released.{Released}
-use Rattle.log.specs.declared.place.Place.{Place}
-use Rattle.log.proofs.ValidLaws.{valid_row_start}
+use Rattle.event_log.specs.declared.place.Place.{Place}
+use Rattle.event_log.proofs.ValidLaws.{valid_row_start}
 use Rattle.log_waits.proofs.LeftLaws.{rows_left, left_end, left_on, left_fits}
 use Rattle.log_ewaits.proofs.FirstRow.{ewait_first}
 

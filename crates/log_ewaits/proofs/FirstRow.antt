@@ -2,8 +2,8 @@
 use Rattle.std.proofs.Common.{◌≡◌, ℕ, zero, suc, ◌+◌, ◌-◌, ◌<◌, ◌≤◌, Bool, true, false, length, get_or, sym, refl, ◌∙◌, subst, arith, lt-ltb, eq-eqb}
 use native.Mathlib.Decide.{dec_lt}
 use Rattle.families.proofs.Tests.{cond_elim}
-use Rattle.log.specs.Log.{Log}
-use Rattle.log.specs.declared.place.Place.{Place}
+use Rattle.event_log.specs.Log.{Log}
+use Rattle.event_log.specs.declared.place.Place.{Place}
 use Rattle.log_ewaits.specs.Ewait.{has_reading, passing, search_in, search_from, in64, ewait_of, ReadsAsked, AtFirst, FirstFrom}
 use Rattle.log_ewaits.specs.declared.ewait.Released.{Released}
 

@@ -2,8 +2,8 @@
 use Rattle.std.specs.Prelude.{◌≡◌, ℕ, zero, suc, ◌+◌, ◌-◌, ◌%◌, ◌^◌, ◌<◌, ◌≤◌, Bool, cond, ◌&&◌, List, length, ◌==◌, nat_lt, slice_index}
 use Rattle.words.specs.Bits.{bit_of}
 use Rattle.log_waits.specs.Left.{left_of}
-use Rattle.log.specs.Log.{Log, log_of}
-use Rattle.log.specs.declared.place.Place.{Place}
+use Rattle.event_log.specs.Log.{Log, log_of}
+use Rattle.event_log.specs.declared.place.Place.{Place}
 use Rattle.log_ewaits.specs.declared.ewait.Released.{Released}
 
 -- the row has a reading of the event, and it is the value; events are below 32, and no reading is above 1

@@ -1,10 +1,10 @@
 // A wait for an event: a search over the rows.
 ghost use Rattle.std.specs.Prelude.{◌≡◌};
 ghost use Rattle.log_ewaits.specs.Ewait.{has_reading, Ewaits};
-ghost use Rattle.log.specs.Log.{log_of};
+ghost use Rattle.event_log.specs.Log.{log_of};
 
 use crate::row::mask_at;
-use log::Place;
+use event_log::Place;
 use log_waits::unused;
 
 // Where the search ended, and the clocks that it passed by.

@@ -1,4 +1,6 @@
 // How a wait for an event passes over the rows of a log.
+#![tactic(auto)]
+
 mod ewait;
 mod row;
 

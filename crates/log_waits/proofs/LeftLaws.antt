@@ -2,10 +2,10 @@
 use Rattle.std.proofs.Common.{◌≡◌, ℕ, zero, suc, ◌+◌, ◌-◌, ◌*◌, ◌%◌, ◌^◌, ◌<◌, ◌≤◌, true, List, length, get_or, add_assoc, arith}
 use native.Mathlib.Decide.{dec_lt}
 use native.Mathlib.Nat.{mod-add-mod}
-use Rattle.log.specs.Log.{Log}
-use Rattle.log.specs.Validity.{valid_log}
-use Rattle.log.specs.declared.place.Place.{Place}
-use Rattle.log.proofs.ValidLaws.{rows_most, row_most}
+use Rattle.event_log.specs.Log.{Log}
+use Rattle.event_log.specs.Validity.{valid_log}
+use Rattle.event_log.specs.declared.place.Place.{Place}
+use Rattle.event_log.proofs.ValidLaws.{rows_most, row_most}
 use Rattle.log_waits.specs.Left.{left_in, left_from, left_of}
 
 -- the rows left are the present one and those after it

@@ -3,12 +3,12 @@ use Rattle.std.proofs.Common.{◌≡◌, ℕ, zero, suc, ◌+◌, ◌-◌, ◌<�
 use native.Mathlib.Decide.{dec_lt}
 use Rattle.families.proofs.Tests.{cond_elim}
 use Rattle.log_waits.specs.Left.{left_in, left_from, left_of}
-use Rattle.log.specs.Log.{Log}
-use Rattle.log.specs.Validity.{valid_log, valid_place}
+use Rattle.event_log.specs.Log.{Log}
+use Rattle.event_log.specs.Validity.{valid_log, valid_place}
 use Rattle.log_waits.specs.Wait.{wait_in, wait_from, wait_of, Waits}
-use Rattle.log.specs.declared.place.Place.{Place}
+use Rattle.event_log.specs.declared.place.Place.{Place}
 use Rattle.log_waits.specs.declared.wait.Waited.{Waited}
-use Rattle.log.proofs.ValidLaws.{valid_in_row, valid_at_end, row_within}
+use Rattle.event_log.proofs.ValidLaws.{valid_in_row, valid_at_end, row_within}
 use Rattle.log_waits.proofs.LeftLaws.{rows_left, left_end, left_on}
 
 -- the log's end cuts off of a wait what is more than was left

@@ -1,6 +1,6 @@
 -- What a log has left from a place on (01, "Steps and time": the third clock sum).
 use Rattle.std.specs.Prelude.{ℕ, zero, suc, ◌+◌, ◌-◌, List, length, slice_index}
-use Rattle.log.specs.declared.place.Place.{Place}
+use Rattle.event_log.specs.declared.place.Place.{Place}
 
 -- the unused part of the present row and all later rows, of which there are n with the present one
 unfoldable pub left_in : ℕ → List ℕ → ℕ → ℕ → ℕ

@@ -1,7 +1,7 @@
 -- A wait of a number of clocks (01, "Steps and time").
 use Rattle.std.specs.Prelude.{◌≡◌, ℕ, zero, suc, ◌+◌, ◌-◌, ◌≤◌, cond, List, length, nat_lt, slice_index}
 use Rattle.log_waits.specs.Left.{left_of}
-use Rattle.log.specs.declared.place.Place.{Place}
+use Rattle.event_log.specs.declared.place.Place.{Place}
 use Rattle.log_waits.specs.declared.wait.Waited.{Waited}
 
 -- a wait over the rows left, the present one first: it ends in the row if that has clocks to spare, and else goes on with

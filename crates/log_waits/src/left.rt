@@ -3,7 +3,7 @@ ghost use Rattle.std.specs.Prelude.{◌≡◌, ◌%◌, ◌^◌};
 ghost use Rattle.log_waits.specs.Left.{left_of};
 
 use crate::row::unused;
-use log::Place;
+use event_log::Place;
 
 // The unused part of the present row and all later rows. The sum is kept in 64 bits; on a valid log it
 // does not wrap.

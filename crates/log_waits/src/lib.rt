@@ -1,4 +1,6 @@
 // How a wait of some clocks passes over the rows of a log, and what the log has left.
+#![tactic(auto)]
+
 mod left;
 mod row;
 mod wait;

@@ -2,7 +2,7 @@
 ghost use Rattle.log_waits.specs.Wait.{Waits};
 
 use crate::row::unused;
-use log::Place;
+use event_log::Place;
 
 #[derive(Drop)]
 pub struct Waited {

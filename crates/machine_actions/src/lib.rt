@@ -1,4 +1,6 @@
 // What an instruction asks of the machine: the ten instructions in six classes.
+#![tactic(auto)]
+
 mod actions;
 mod clocks;
 

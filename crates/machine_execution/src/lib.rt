@@ -1,4 +1,6 @@
 // Which slots execute a script.
+#![tactic(auto)]
+
 ghost use Rattle.std.specs.Prelude.{◌≡◌, not, ◌&&◌};
 ghost use Rattle.machine_state.specs.Slot.{has_slot, is_idle};
 ghost use Rattle.machine_execution.specs.Execution.{some_executes, some_slot_executes, executing_slot};

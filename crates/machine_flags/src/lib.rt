@@ -1,4 +1,6 @@
 // The 32 flags of the sequencer, and what an instruction does to one.
+#![tactic(auto)]
+
 mod flags;
 
 pub use flags::{

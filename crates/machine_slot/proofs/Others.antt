@@ -9,7 +9,7 @@ use Rattle.machine_actions.proofs.Variants.{no_such}
 use Rattle.machine_actions.specs.declared.actions.Action.{Action}
 use Rattle.machine_actions.specs.contracts.actions.Action.{the_type as action_type}
 use Rattle.machine_flags.specs.declared.flags.Flags.{Flags}
-use Rattle.log.specs.declared.place.Place.{Place}
+use Rattle.event_log.specs.declared.place.Place.{Place}
 use Rattle.refusals.specs.declared.refusals.Unreadable.{Unreadable}
 use Rattle.refusals.specs.contracts.refusals.Unreadable.{the_type as reason_type}
 use Rattle.machine_state.specs.declared.slots.Mode.{Mode}

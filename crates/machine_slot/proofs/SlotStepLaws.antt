@@ -6,9 +6,9 @@ use mathlib.Core.List.{List}
 use native.Mathlib.Omega.{arith}
 use Rattle.isa.specs.declared.reader.Decoded.{Decoded}
 use Rattle.refusals.specs.declared.refusals.Unreadable.{Unreadable}
-use Rattle.log.specs.Log.{Log}
-use Rattle.log.specs.Validity.{valid_log, valid_place}
-use Rattle.log.specs.declared.place.Place.{Place}
+use Rattle.event_log.specs.Log.{Log}
+use Rattle.event_log.specs.Validity.{valid_log, valid_place}
+use Rattle.event_log.specs.declared.place.Place.{Place}
 use Rattle.machine_actions.specs.Action.{action_of}
 use Rattle.machine_time.proofs.TimeLaws.{Spends, elapsed_clocks, elapsed_place}
 use Rattle.machine_slot.specs.SlotStep.{perform_of, unfetched, slot_step_of}

@@ -1,4 +1,6 @@
 // The state that host and scripts share, and its two slots.
+#![tactic(auto)]
+
 mod sequencer;
 mod slots;
 mod state;

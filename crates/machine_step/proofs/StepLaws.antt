@@ -11,9 +11,9 @@ use Rattle.families.proofs.Tests.{both_right, cond_elim}
 use Rattle.refusals.specs.declared.refusals.Unreadable.{Unreadable}
 use Rattle.isa_fetch.specs.Fetch.{fetch_of, past_opcode}
 use Rattle.isa_fetch.proofs.Places.{unknown_within}
-use Rattle.log.specs.Log.{Log}
-use Rattle.log.specs.Validity.{valid_log, valid_place}
-use Rattle.log.specs.declared.place.Place.{Place}
+use Rattle.event_log.specs.Log.{Log}
+use Rattle.event_log.specs.Validity.{valid_log, valid_place}
+use Rattle.event_log.specs.declared.place.Place.{Place}
 use Rattle.machine_state.specs.Slot.{has_slot, is_running, slot_of}
 use Rattle.machine_step.specs.Step.{unmoved, after_slot_step, advance_of, step_of}
 use Rattle.machine_slot.specs.SlotStep.{unfetched_at, unfetched, slot_step_of}

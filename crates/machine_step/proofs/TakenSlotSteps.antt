@@ -7,8 +7,8 @@ use Rattle.isa.specs.declared.instructions.Instruction.{Instruction}
 use Rattle.isa.specs.declared.reader.Decoded.{Decoded}
 use Rattle.refusals.specs.declared.refusals.Unreadable.{Unreadable}
 use Rattle.isa_fetch.specs.Fetch.{fetch_of, past_opcode}
-use Rattle.log.specs.Log.{Log}
-use Rattle.log.specs.declared.place.Place.{Place}
+use Rattle.event_log.specs.Log.{Log}
+use Rattle.event_log.specs.declared.place.Place.{Place}
 use Rattle.machine_actions.specs.Action.{action_of}
 use Rattle.machine_time.specs.Time.{elapsed_of}
 use Rattle.machine_slot.specs.SlotStep.{perform_at, perform_of, unfetched_at, slot_step_of}

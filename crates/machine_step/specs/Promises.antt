@@ -2,9 +2,9 @@
 use Rattle.std.specs.Prelude.{ℕ, ◌+◌, ◌≡◌, true, cond, not, ◌&&◌}
 use Rattle.families.specs.Family.{known_family}
 use Rattle.log_waits.specs.Left.{left_of}
-use Rattle.log.specs.Log.{Log}
-use Rattle.log.specs.Validity.{valid_log, valid_place}
-use Rattle.log.specs.declared.place.Place.{Place}
+use Rattle.event_log.specs.Log.{Log}
+use Rattle.event_log.specs.Validity.{valid_log, valid_place}
+use Rattle.event_log.specs.declared.place.Place.{Place}
 use Rattle.machine_state.specs.Slot.{other_of, slot_of}
 use Rattle.refusals.specs.Number.{unsteppable_number}
 use Rattle.machine_step.specs.Step.{step_of}

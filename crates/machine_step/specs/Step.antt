@@ -2,9 +2,9 @@
 use Rattle.std.specs.Prelude.{cond, ◌&&◌}
 use Rattle.families.specs.Family.{known_family}
 use Rattle.isa_fetch.specs.Fetch.{fetch_of}
-use Rattle.log.specs.Log.{Log}
-use Rattle.log.specs.Validity.{valid_log, valid_place}
-use Rattle.log.specs.declared.place.Place.{Place}
+use Rattle.event_log.specs.Log.{Log}
+use Rattle.event_log.specs.Validity.{valid_log, valid_place}
+use Rattle.event_log.specs.declared.place.Place.{Place}
 use Rattle.machine_state.specs.Slot.{has_slot, is_running, slot_of, with_slot}
 use Rattle.machine_slot.specs.SlotStep.{slot_step_of}
 use Rattle.machine_state.specs.declared.slots.SlotName.{SlotName}

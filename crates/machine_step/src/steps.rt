@@ -3,12 +3,12 @@ ghost use Rattle.std.specs.Prelude.{◌≡◌, ◌&&◌};
 ghost use Rattle.machine_state.specs.Slot.{has_slot, is_running};
 ghost use Rattle.machine_step.specs.Step.{after_slot_step, advance_of};
 ghost use Rattle.machine_step.specs.Step.{unmoved as Step·unmoved};
-ghost use Rattle.log.specs.Log.{log_of};
-ghost use Rattle.log.specs.Validity.{valid_log, valid_place};
+ghost use Rattle.event_log.specs.Log.{log_of};
+ghost use Rattle.event_log.specs.Validity.{valid_log, valid_place};
 ghost use Rattle.machine_step.specs.Promises.{Steps};
 
 use isa::{CodeAddress, Decoded};
-use log::Place;
+use event_log::Place;
 use machine_actions::action_of;
 use machine_slot::{Effect, SlotStep, perform, unfetched};
 use machine_state::{Mode, SlotName, State, has_slot, is_running, slot_of, with_slot};
@@ -95,7 +95,7 @@ fn can_run(family: u8, name: SlotName, mode: Mode) -> bool
 fn in_log<'a>(clocks: &'a [u64], known: &'a [u32], values: &'a [u32], at: Place) -> bool
     ensures { result ≡ (valid_log (log_of clocks.now known.now values.now) && valid_place clocks.now at) }
 {
-    log::valid_log(clocks, known, values) && log::valid_place(clocks, at)
+    event_log::valid_log(clocks, known, values) && event_log::valid_place(clocks, at)
 }
 
 fn unmoved(state: State, place: Place, effect: Effect) -> Stepped

@@ -6,8 +6,8 @@ use types.Run.{OneOf}
 use Rattle.machine_actions.proofs.Variants.{no_such}
 use Rattle.machine_actions.specs.declared.actions.Action.{Action}
 use Rattle.machine_actions.specs.contracts.actions.Action.{the_type as action_type}
-use Rattle.log.specs.Log.{Log}
-use Rattle.log.specs.declared.place.Place.{Place}
+use Rattle.event_log.specs.Log.{Log}
+use Rattle.event_log.specs.declared.place.Place.{Place}
 use Rattle.machine_time.specs.Time.{at_once, elapsed_of}
 
 pub takes_no_time : (a : Action) (log : Log) (p : Place) → OneOf (2 ∷ 3 ∷ 4 ∷ 5 ∷ []) (tag_of action_type a) → at_once p ≡ elapsed_of a log p

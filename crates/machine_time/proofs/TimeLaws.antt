@@ -7,12 +7,12 @@ use native.Mathlib.Omega.{arith}
 use lib.ListN.{length}
 use Rattle.log_ewaits.specs.Ewait.{ewait_of, passed_by, left_after}
 use Rattle.log_waits.specs.Left.{left_of}
-use Rattle.log.specs.Log.{Log}
-use Rattle.log.specs.Validity.{valid_log, valid_place}
+use Rattle.event_log.specs.Log.{Log}
+use Rattle.event_log.specs.Validity.{valid_log, valid_place}
 use Rattle.log_ewaits.specs.declared.ewait.Released.{Released}
-use Rattle.log.specs.declared.place.Place.{Place}
+use Rattle.event_log.specs.declared.place.Place.{Place}
 use Rattle.log_ewaits.proofs.EwaitLaws.{ReleasedWithin, ewait_valid, ewait_spent}
-use Rattle.log.proofs.ValidLaws.{valid_at_end}
+use Rattle.event_log.proofs.ValidLaws.{valid_at_end}
 use Rattle.log_waits.proofs.LeftLaws.{left_end, left_fits}
 use Rattle.log_waits.proofs.WaitLaws.{wait_valid, wait_spent}
 use Rattle.machine_time.specs.Time.{after_ewait, elapsed_of}

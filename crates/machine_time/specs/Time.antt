@@ -4,8 +4,8 @@ use Rattle.log_waits.specs.Left.{left_of}
 use Rattle.log_waits.specs.Wait.{wait_of}
 use Rattle.log_ewaits.specs.Ewait.{ewait_of, ReadsAsked}
 use Rattle.log_ewaits.specs.declared.ewait.Released.{Released}
-use Rattle.log.specs.Log.{Log}
-use Rattle.log.specs.declared.place.Place.{Place}
+use Rattle.event_log.specs.Log.{Log}
+use Rattle.event_log.specs.declared.place.Place.{Place}
 use Rattle.log_waits.specs.declared.wait.Waited.{Waited}
 use Rattle.machine_actions.specs.declared.actions.Action.{Action}
 use Rattle.machine_time.specs.declared.elapsed.Elapsed.{Elapsed}

@@ -2,9 +2,9 @@
 ghost use Rattle.std.specs.Prelude.{◌≡◌};
 ghost use Rattle.machine_time.specs.Time.{at_once, after_wait, after_ewait, Elapses};
 ghost use Rattle.log_waits.specs.Wait.{wait_of};
-ghost use Rattle.log.specs.Log.{log_of};
+ghost use Rattle.event_log.specs.Log.{log_of};
 
-use log::Place;
+use event_log::Place;
 use log_ewaits::Released;
 use machine_actions::Action;
 

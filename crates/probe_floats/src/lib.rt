@@ -1,4 +1,6 @@
 // Bit patterns as floats and back, on every pattern and every float.
+#![tactic(auto)]
+
 ghost use Rattle.std.specs.Prelude.{◌≡◌};
 ghost use Rattle.probe_floats.specs.Pattern.{FromPattern, ToPattern, is_finite};
 

@@ -1,4 +1,6 @@
 // Probe gates: a raw float becomes volts by its calibration, and volts become a reading by a gate.
+#![tactic(auto)]
+
 mod calibration;
 mod gate;
 mod sampling;

@@ -1,4 +1,6 @@
 // The reasons that calls answer as enums, with their numbers.
+#![tactic(auto)]
+
 mod refusals;
 
 pub use refusals::{

@@ -6,10 +6,10 @@ use mathlib.Core.List.{List}
 use native.Mathlib.Decide.{dec_lt}
 use native.Mathlib.Omega.{arith}
 use lib.ListN.{length, get_or, length-append, get_or-append}
-use Rattle.log.specs.Log.{Log}
-use Rattle.log.specs.Validity.{valid_log, valid_place}
-use Rattle.log.specs.declared.place.Place.{Place}
-use Rattle.log.proofs.ValidLaws.{none_used_at_end, used_below, row_within, valid_columns, valid_row_start}
+use Rattle.event_log.specs.Log.{Log}
+use Rattle.event_log.specs.Validity.{valid_log, valid_place}
+use Rattle.event_log.specs.declared.place.Place.{Place}
+use Rattle.event_log.proofs.ValidLaws.{none_used_at_end, used_below, row_within, valid_columns, valid_row_start}
 use Rattle.log_waits.specs.Left.{left_from, left_of}
 use Rattle.log_waits.specs.Wait.{wait_from, wait_of}
 use Rattle.log_waits.proofs.LeftLaws.{left_end, left_on}

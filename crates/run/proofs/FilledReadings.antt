@@ -7,10 +7,10 @@ use native.Mathlib.Decide.{dec_lt}
 use native.Mathlib.Omega.{arith}
 use lib.ListN.{length, get_or}
 use borrow.Author.Tests.{lt-ltb, eq-eqb}
-use Rattle.log.specs.Log.{Log}
-use Rattle.log.specs.Validity.{valid_log, valid_place}
-use Rattle.log.specs.declared.place.Place.{Place}
-use Rattle.log.proofs.ValidLaws.{used_below, valid_row_start}
+use Rattle.event_log.specs.Log.{Log}
+use Rattle.event_log.specs.Validity.{valid_log, valid_place}
+use Rattle.event_log.specs.declared.place.Place.{Place}
+use Rattle.event_log.proofs.ValidLaws.{used_below, valid_row_start}
 use Rattle.log_waits.specs.Left.{left_of}
 use Rattle.log_waits.specs.Wait.{wait_of}
 use Rattle.log_waits.proofs.LeftLaws.{left_on, left_in_row, left_from_lem, left_later, left_fits}

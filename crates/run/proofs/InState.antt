@@ -4,9 +4,9 @@ use mathlib.Core.Path.{◌≡◌, refl, ap, ap₂, ◌∙◌}
 use mathlib.Core.Bool.{Bool, true, false}
 use native.Mathlib.Omega.{arith}
 use Rattle.families.specs.Family.{known_family}
-use Rattle.log.specs.Log.{Log}
-use Rattle.log.specs.Validity.{valid_log, valid_place}
-use Rattle.log.proofs.ValidLaws.{valid_row_start}
+use Rattle.event_log.specs.Log.{Log}
+use Rattle.event_log.specs.Validity.{valid_log, valid_place}
+use Rattle.event_log.proofs.ValidLaws.{valid_row_start}
 use Rattle.machine_flags.specs.declared.flags.Flags.{Flags}
 use Rattle.machine_state.specs.Slot.{has_slot, is_running, slot_of}
 use Rattle.machine_state.specs.declared.slots.Slot.{Slot}

@@ -7,9 +7,9 @@ use mathlib.Core.List.{List, []}
 use native.Mathlib.Omega.{arith}
 use Rattle.families.specs.Family.{known_family}
 use Rattle.families.proofs.Tests.{both_left, cond_elim}
-use Rattle.log.specs.Log.{Log}
-use Rattle.log.specs.Validity.{valid_log, log_start, valid_place}
-use Rattle.log.proofs.ValidLaws.{valid_row_start}
+use Rattle.event_log.specs.Log.{Log}
+use Rattle.event_log.specs.Validity.{valid_log, log_start, valid_place}
+use Rattle.event_log.proofs.ValidLaws.{valid_row_start}
 use Rattle.log_waits.specs.Left.{left_of}
 use Rattle.machine_flags.specs.declared.flags.Flags.{Flags}
 use Rattle.machine_state.specs.Slot.{has_slot, is_running, slot_of}

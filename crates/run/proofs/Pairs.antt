@@ -14,8 +14,8 @@ use Rattle.isa_fetch.specs.Fetch.{all_marked, fetch_of}
 use Rattle.log_waits.specs.Left.{left_in}
 use Rattle.log_ewaits.specs.Ewait.{has_reading, search_in}
 use Rattle.words.specs.Bits.{bit_of}
-use Rattle.log.specs.Log.{log_of}
-use Rattle.log.specs.Validity.{valid_log, valid_place}
+use Rattle.event_log.specs.Log.{log_of}
+use Rattle.event_log.specs.Validity.{valid_log, valid_place}
 use Rattle.machine_slot.specs.SlotStep.{perform_of}
 use Rattle.machine_state.specs.declared.slots.SlotName.{SlotName}
 use Rattle.machine_step.specs.Step.{advance_of, step_of}

@@ -7,7 +7,7 @@ use native.Mathlib.Omega.{arith}
 use lib.Dec.{leb}
 use lib.ListN.{length, take}
 use Rattle.families.proofs.Tests.{cond_elim}
-use Rattle.log.specs.Validity.{valid_log}
+use Rattle.event_log.specs.Validity.{valid_log}
 use Rattle.machine_flags.specs.declared.flags.Flags.{Flags}
 use Rattle.machine_state.specs.declared.slots.Slot.{Slot}
 use Rattle.script.specs.Input.{script_fits}

@@ -9,8 +9,8 @@ use Rattle.isa.specs.declared.instructions.Instruction.{Instruction}
 use Rattle.isa.specs.declared.reader.Decoded.{Decoded}
 use Rattle.refusals.specs.declared.refusals.Unreadable.{Unreadable}
 use Rattle.isa_fetch.proofs.Places.{size_small, Lies, fetch_lies}
-use Rattle.log.specs.Log.{Log}
-use Rattle.log.specs.declared.place.Place.{Place}
+use Rattle.event_log.specs.Log.{Log}
+use Rattle.event_log.specs.declared.place.Place.{Place}
 use Rattle.machine_actions.specs.Action.{merge_of}
 use Rattle.machine_slot.specs.SlotStep.{perform_of, slot_step_of}
 use Rattle.machine_actions.specs.declared.actions.Part.{Part}

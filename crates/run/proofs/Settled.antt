@@ -10,8 +10,8 @@ use Rattle.families.specs.Family.{code_size}
 use Rattle.isa.specs.declared.reader.Decoded.{Decoded}
 use Rattle.refusals.specs.declared.refusals.Unreadable.{Unreadable}
 use Rattle.isa_fetch.proofs.Places.{Lies, fetch_lies, fetch_past}
-use Rattle.log.specs.Log.{Log}
-use Rattle.log.specs.declared.place.Place.{Place}
+use Rattle.event_log.specs.Log.{Log}
+use Rattle.event_log.specs.declared.place.Place.{Place}
 use Rattle.machine_actions.specs.Action.{action_of}
 use Rattle.machine_state.specs.Slot.{is_running}
 use Rattle.machine_time.specs.Time.{elapsed_of}

@@ -6,9 +6,9 @@ use mathlib.Core.List.{List}
 use native.Mathlib.Nat.{zero-add, suc-add}
 use native.Mathlib.Omega.{arith}
 use Rattle.families.proofs.Tests.{cond_elim}
-use Rattle.log.specs.Validity.{valid_log, log_start, valid_place}
-use Rattle.log.specs.declared.place.Place.{Place}
-use Rattle.log.proofs.ValidLaws.{valid_row_start}
+use Rattle.event_log.specs.Validity.{valid_log, log_start, valid_place}
+use Rattle.event_log.specs.declared.place.Place.{Place}
+use Rattle.event_log.proofs.ValidLaws.{valid_row_start}
 use Rattle.log_waits.specs.Left.{left_of}
 use Rattle.machine_flags.specs.declared.flags.Flags.{Flags}
 use Rattle.machine_state.specs.Slot.{is_running}

@@ -8,9 +8,9 @@ use lib.ListN.{length}
 use borrow.Author.Tests.{eqb-true, eq-eqb}
 use Rattle.isa.specs.declared.reader.Decoded.{Decoded}
 use Rattle.refusals.specs.declared.refusals.Unreadable.{Unreadable}
-use Rattle.log.specs.Log.{Log}
-use Rattle.log.specs.Validity.{log_start}
-use Rattle.log.specs.declared.place.Place.{Place}
+use Rattle.event_log.specs.Log.{Log}
+use Rattle.event_log.specs.Validity.{log_start}
+use Rattle.event_log.specs.declared.place.Place.{Place}
 use Rattle.log_waits.specs.Wait.{wait_of}
 use Rattle.log_ewaits.specs.Ewait.{ewait_of}
 use Rattle.log_ewaits.specs.declared.ewait.Released.{Released}

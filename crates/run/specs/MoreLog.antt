@@ -1,9 +1,9 @@
 -- More log, never fewer writes (02, ticket 12): two runs of one slot from one state and of equally many steps, the second under a log that says more.
 use Rattle.std.specs.Prelude.{ℕ, ◌+◌, ◌-◌, ◌≤◌, ◌≡◌, ◌⊎◌, true, get_or}
 use mathlib.Core.List.{List, ◌++◌, IsPrefix}
-use Rattle.log.specs.Log.{Log, log_of}
-use Rattle.log.specs.Validity.{valid_log, log_start}
-use Rattle.log.specs.declared.place.Place.{Place}
+use Rattle.event_log.specs.Log.{Log, log_of}
+use Rattle.event_log.specs.Validity.{valid_log, log_start}
+use Rattle.event_log.specs.declared.place.Place.{Place}
 use Rattle.log_waits.specs.Left.{left_of}
 use Rattle.log_ewaits.specs.Ewait.{SameReadings}
 use Rattle.words.specs.Bits.{bit_of}

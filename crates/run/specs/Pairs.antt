@@ -1,7 +1,7 @@
 -- Worked pairs of runs (02, ticket 12), by computation: a log, one that says more, and what both runs came to.
 use Rattle.std.specs.Prelude.{ℕ, ◌-◌, ◌≡◌, true, List, [], ◌∷◌, ◌++◌, length, replicate}
-use Rattle.log.specs.Log.{Log, log_of}
-use Rattle.log.specs.Validity.{valid_log}
+use Rattle.event_log.specs.Log.{Log, log_of}
+use Rattle.event_log.specs.Validity.{valid_log}
 use Rattle.machine_state.specs.declared.slots.SlotName.{SlotName}
 use Rattle.machine_state.specs.declared.state.State.{State}
 use Rattle.run.specs.Run.{Run, Write, begun, run_for}

@@ -6,8 +6,8 @@ use Rattle.refusals.specs.Number.{unreplayable_number}
 use Rattle.refusals.specs.declared.refusals.Unreadable.{Unreadable}
 use Rattle.refusals.specs.declared.refusals.Unreplayable.{Unreplayable}
 use Rattle.log_waits.specs.Left.{left_of}
-use Rattle.log.specs.Log.{Log}
-use Rattle.log.specs.Validity.{valid_log, log_start}
+use Rattle.event_log.specs.Log.{Log}
+use Rattle.event_log.specs.Validity.{valid_log, log_start}
 use Rattle.machine_flags.specs.Flags.{flags_word0, flags_word1}
 use Rattle.machine_flags.specs.declared.flags.Flags.{Flags}
 use Rattle.machine_state.specs.declared.slots.Mode.{Mode}

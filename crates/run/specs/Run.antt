@@ -1,8 +1,8 @@
 -- A run: the steps of one slot over a log, and what they did (01, "Demand 3's words").
 use Rattle.std.specs.Prelude.{ℕ, zero, suc, ◌+◌, List, [], ◌∷◌, ◌++◌}
-use Rattle.log.specs.Log.{Log}
-use Rattle.log.specs.Validity.{log_start}
-use Rattle.log.specs.declared.place.Place.{Place}
+use Rattle.event_log.specs.Log.{Log}
+use Rattle.event_log.specs.Validity.{log_start}
+use Rattle.event_log.specs.declared.place.Place.{Place}
 use Rattle.machine_step.specs.Step.{step_of}
 use Rattle.machine_state.specs.declared.slots.SlotName.{SlotName}
 use Rattle.machine_state.specs.declared.state.State.{State}

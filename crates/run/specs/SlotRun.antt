@@ -2,9 +2,9 @@
 use Rattle.std.specs.Prelude.{ℕ, zero, suc, ◌+◌, ◌≡◌, Bool, true, false, cond, List, [], ◌++◌}
 use Rattle.families.specs.Family.{known_family}
 use Rattle.isa.specs.declared.reader.Decoded.{Decoded}
-use Rattle.log.specs.Log.{Log}
-use Rattle.log.specs.Validity.{log_start}
-use Rattle.log.specs.declared.place.Place.{Place}
+use Rattle.event_log.specs.Log.{Log}
+use Rattle.event_log.specs.Validity.{log_start}
+use Rattle.event_log.specs.declared.place.Place.{Place}
 use Rattle.isa_fetch.specs.Fetch.{fetch_of}
 use Rattle.machine_flags.specs.declared.flags.Flags.{Flags}
 use Rattle.machine_state.specs.Slot.{has_slot, is_running, blank_slot, slot_of, with_slot}

@@ -1,6 +1,6 @@
 // What the run of a slot answers, and what replay tells of it.
 use isa::{CodeAddress, MmioAddress};
-use log::Place;
+use event_log::Place;
 use machine_flags::Flags;
 use machine_state::Slot;
 use refusals::Unreplayable;

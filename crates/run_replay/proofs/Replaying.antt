@@ -7,9 +7,9 @@ use native.Mathlib.Omega.{arith}
 use lib.ListN.{length, drop, length-append}
 use lib.Seq.{sets}
 use Rattle.isa_fetch.specs.Fetch.{fetch_of}
-use Rattle.log.specs.Rows.{column_into}
-use Rattle.log.specs.Validity.{valid_log, log_start}
-use Rattle.log.proofs.Columns.{column_length, column_more}
+use Rattle.event_log.specs.Rows.{column_into}
+use Rattle.event_log.specs.Validity.{valid_log, log_start}
+use Rattle.event_log.proofs.Columns.{column_length, column_more}
 use Rattle.log_waits.proofs.LeftLaws.{left_most}
 use Rattle.machine_state.specs.Slot.{is_running}
 use Rattle.machine_slot.specs.SlotStep.{slot_step_of}

@@ -2,8 +2,8 @@
 ghost use Rattle.std.specs.Prelude.{◌≡◌, true, ◌+◌, ◌*◌, ◌^◌, ◌<◌, ◌≤◌, length};
 ghost use Rattle.std.proofs.lemmas.List.Edits.{sets};
 ghost use Rattle.isa_fetch.specs.Fetch.{fetch_of};
-ghost use Rattle.log.specs.Log.{log_of};
-ghost use Rattle.log.specs.Validity.{valid_log};
+ghost use Rattle.event_log.specs.Log.{log_of};
+ghost use Rattle.event_log.specs.Validity.{valid_log};
 ghost use Rattle.log_waits.specs.Left.{left_of};
 ghost use Rattle.machine_slot.specs.SlotStep.{slot_step_of};
 ghost use Rattle.run.specs.Run.{wrote_by, fetched_by};
@@ -14,7 +14,7 @@ ghost use Rattle.script.specs.Script.{script_of};
 ghost use Rattle.run_replay.specs.Progress.{progress_after, RunsThrough};
 
 use isa::{CodeAddress, Decoded, MmioAddress};
-use log::Place;
+use event_log::Place;
 use machine_flags::Flags;
 use machine_slot::{Effect, SlotStep};
 use machine_state::{Mode, Slot};
@@ -92,7 +92,7 @@ pub fn run<'a>(
     if writes.len() < MAX_ENTRIES {
         return RunAnswer::Refused(Unreplayable::Room);
     }
-    if !log::valid_log(clocks, known, values) {
+    if !event_log::valid_log(clocks, known, values) {
         return RunAnswer::Refused(Unreplayable::Log);
     }
     RunAnswer::Ended(run_slot_steps(

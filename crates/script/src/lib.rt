@@ -1,4 +1,6 @@
 // What may be audited and replayed: a script in code RAM, and the allowed ranges.
+#![tactic(auto)]
+
 mod input;
 mod ranges;
 

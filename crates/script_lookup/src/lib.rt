@@ -1,4 +1,6 @@
 // An address looked up in allowed ranges that rise.
+#![tactic(auto)]
+
 mod lookup;
 mod rising;
 

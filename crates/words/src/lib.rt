@@ -1,4 +1,6 @@
 // Bytes that are 0 past the end, and little-endian numbers made of them.
+#![tactic(auto)]
+
 ghost use Rattle.std.specs.Prelude.{◌≡◌, ◌+◌, ◌*◌, get_or};
 ghost use Rattle.words.specs.Numbers.{word_at};
 

@@ -2,7 +2,7 @@
 use mathlib.Core.Path.{sym, ap, ◌∙◌}
 use native.Mathlib.Omega.{arith}
 use borrow.Author.Rules.{rules}
-use Rattle.log.specs.Log.{log_of}
+use Rattle.event_log.specs.Log.{log_of}
 use Rattle.audit_verdict.specs.Auditor.{wait_length}
 use Rattle.audit_witness.proofs.Making.{extends_wait, extends_released, extends_begun, extends_poke, extends_other}
 use Rattle.audit_witness.proofs.rows.extend.Statement.{statement}

@@ -6,8 +6,8 @@ use native.Mathlib.Omega.{arith}
 use borrow.Author.Rules.{rules}
 use Rattle.isa.specs.declared.instructions.Instruction.{Instruction}
 use Rattle.isa.specs.declared.reader.Decoded.{Decoded}
-use Rattle.log.specs.Log.{Log, log_of}
-use Rattle.log.proofs.Columns.{Room}
+use Rattle.event_log.specs.Log.{Log, log_of}
+use Rattle.event_log.proofs.Columns.{Room}
 use Rattle.script.specs.Script.{Script, script_of, fetch_at}
 use Rattle.audit_verdict.specs.Witness.{max_shown}
 use Rattle.audit_witness.specs.Witnesses.{way}

@@ -5,8 +5,8 @@ use mathlib.Core.Logic.{⊎_elim}
 use native.Mathlib.Omega.{arith}
 use borrow.Author.Rules.{rules}
 use borrow.Author.Tests.{ltb-true, ltb-false}
-use Rattle.log.specs.Log.{Log, log_of}
-use Rattle.log.proofs.Columns.{Room}
+use Rattle.event_log.specs.Log.{Log, log_of}
+use Rattle.event_log.proofs.Columns.{Room}
 use Rattle.script.specs.Script.{script_of}
 use Rattle.script.specs.Input.{input_fits}
 use Rattle.audit_verdict.specs.Witness.{place_of, max_shown}

@@ -6,7 +6,7 @@ use mathlib.Core.List.{List}
 use native.Mathlib.Omega.{arith}
 use lib.ListN.{length}
 use borrow.Author.Tests.{not-true, not-false}
-use Rattle.log.specs.Validity.{clocks_in_range}
+use Rattle.event_log.specs.Validity.{clocks_in_range}
 use Rattle.job_records.specs.Inside.{shape_number}
 use Rattle.job_records.specs.declared.contents.Counts.{Counts}
 use Rattle.words.specs.Numbers.{long_at}

@@ -7,7 +7,7 @@ use native.Mathlib.Omega.{arith}
 use lib.ListN.{length, take, drop, replicate, length-drop}
 use borrow.Author.Tests.{eqb-true, eqb-false}
 use Rattle.host_registers.specs.Access.{blank_state}
-use Rattle.log.specs.Log.{Log, log_of}
+use Rattle.event_log.specs.Log.{Log, log_of}
 use Rattle.machine_state.specs.Sequencer.{state_from}
 use Rattle.machine_state.specs.declared.sequencer.Sequencer.{Sequencer}
 use Rattle.machine_state.specs.declared.state.State.{State}

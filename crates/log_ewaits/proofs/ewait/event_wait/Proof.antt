@@ -1,6 +1,6 @@
 -- What is passed by and the search from here on are the search that was asked for. Assumes nothing.
 use Rattle.std.proofs.Common.{◌≡◌, ℕ, ◌+◌, ◌-◌, ◌%◌, ◌^◌, ◌<◌, length, get_or, sym, refl, ap, ◌∙◌, subst, ap₂, mod-lt, lit<, rules}
-use Rattle.log.specs.Log.{Log, log_of}
+use Rattle.event_log.specs.Log.{Log, log_of}
 use Rattle.log_ewaits.specs.Ewait.{has_reading, in64, passing, search_from}
 use Rattle.log_ewaits.proofs.EwaitLaws.{in64_start, in64_end, in64_here, in64_next, ewaits}
 use Rattle.log_ewaits.proofs.ewait.event_wait.Statement.{statement}

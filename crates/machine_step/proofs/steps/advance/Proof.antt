@@ -7,7 +7,7 @@ use Rattle.isa.specs.declared.addresses.CodeAddress.{CodeAddress}
 use Rattle.isa.specs.declared.reader.Decoded.{Decoded}
 use Rattle.isa_fetch.specs.Fetch.{fetch_of, reason_of}
 use Rattle.isa_fetch.proofs.Places.{ram_small}
-use Rattle.log.specs.Log.{Log, log_of}
+use Rattle.event_log.specs.Log.{Log, log_of}
 use Rattle.machine_state.specs.declared.slots.Slot.{Slot}
 use Rattle.machine_slot.specs.SlotStep.{slot_step_of}
 use Rattle.machine_slot.specs.declared.slot_steps.SlotStep.{SlotStep}

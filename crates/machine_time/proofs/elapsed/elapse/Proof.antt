@@ -5,7 +5,7 @@ use Rattle.machine_time.proofs.DoneLaws.{elapses}
 use Rattle.machine_time.proofs.Others.{takes_no_time}
 use Rattle.machine_time.proofs.elapsed.elapse.Statement.{statement}
 use Rattle.machine_time.proofs.elapsed.elapse.Tie as tie
-use Rattle.log.specs.Log.{log_of}
+use Rattle.event_log.specs.Log.{log_of}
 
 returns : tie.Need-returns
 returns c = elapses _ _ _ _ (simp (c.before.before.action.given.1, c.after_wait.ensures))

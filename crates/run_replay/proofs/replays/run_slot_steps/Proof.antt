@@ -21,7 +21,7 @@ use Rattle.run_replay.specs.Progress.{progress_after, RunsThrough}
 use Rattle.run_replay.proofs.Replaying.{run, run_rests, run_stopped, progress_after_lem, store_room, store_is, slot_step_fits, written_length, writes_small}
 use Rattle.run_replay.proofs.replays.run_slot_steps.Statement.{statement}
 use Rattle.run_replay.proofs.replays.run_slot_steps.Tie as tie
-use Rattle.log.specs.Log.{log_of}
+use Rattle.event_log.specs.Log.{log_of}
 
 -- the first progress holds the slot and the flags that were handed in
 abbrev invariant-loop : tie.invariant-loop

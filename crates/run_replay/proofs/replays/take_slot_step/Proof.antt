@@ -2,7 +2,7 @@
 use Rattle.machine_step.proofs.TakenSlotSteps.{slot_step_unfetched, slot_step_performed}
 use Rattle.isa_fetch.proofs.Places.{ram_small}
 use Rattle.isa_fetch.specs.Fetch.{reason_of}
-use Rattle.log.specs.Log.{Log, log_of}
+use Rattle.event_log.specs.Log.{Log, log_of}
 use Rattle.isa.specs.declared.addresses.CodeAddress.{CodeAddress}
 use native.Mathlib.Omega.{arith}
 use mathlib.Core.Path.{sym, ap, ◌∙◌}

@@ -1,0 +1,62 @@
+// Which columns are a log, and which places lie in it.
+ghost use Rattle.std.specs.Prelude.{◌≡◌};
+ghost use Rattle.event_log.specs.Log.{log_of};
+ghost use Rattle.event_log.specs.Validity.{clocks_in_range, rows_in_range, valid_log, valid_place};
+
+use crate::place::Place;
+
+// The most rows of a log.
+pub const MAX_ROWS: usize = 1024;
+
+const MAX_CLOCKS: u64 = 281474976710656;
+
+// Whether a row may have so many clocks: 1 to 2^48.
+pub fn clocks_in_range(clocks: u64) -> bool
+    ensures { result ≡ clocks_in_range clocks }
+{
+    1 <= clocks && clocks <= MAX_CLOCKS
+}
+
+// Whether every row has 1 to 2^48 clocks.
+fn rows_in_range(clocks: &[u64]) -> bool
+    ensures { result ≡ rows_in_range clocks.now }
+{
+    let mut row = 0;
+    while row < clocks.len() {
+        if !clocks_in_range(clocks[row]) {
+            return false;
+        }
+        row += 1;
+    }
+    true
+}
+
+// Whether the columns are a log: at most 1,024 rows, columns of equal length, clocks in range.
+pub fn valid_log<'a>(clocks: &'a [u64], known: &'a [u32], values: &'a [u32]) -> bool
+    ensures { result ≡ valid_log (log_of clocks.now known.now values.now) }
+{
+    if MAX_ROWS < clocks.len() {
+        return false;
+    }
+    if known.len() != clocks.len() {
+        return false;
+    }
+    if values.len() != clocks.len() {
+        return false;
+    }
+    rows_in_range(clocks)
+}
+
+// Whether the place lies in the log: in a row with clocks left, or at the log's end.
+pub fn valid_place(clocks: &[u64], at: Place) -> bool
+    ensures { result ≡ valid_place clocks.now at }
+{
+    let row = at.row;
+    if row < clocks.len() {
+        return at.used < clocks[row];
+    }
+    if row == clocks.len() {
+        return at.used == 0;
+    }
+    false
+}
