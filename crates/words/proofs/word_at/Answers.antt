@@ -9,9 +9,9 @@ use Rattle.words.proofs.word_at.Goals as goal
 past : (bytes : List ℕ) (at : ℕ) → length bytes ≤ at → byte_at bytes at ≡ 0
 past bytes at h = get_or-eq_default bytes 0 h
 
-pub returns_then_bytes_at : goal.returns_then_bytes_at
+pub returns-then-bytes-at : goal.returns-then-bytes-at
 unfolding word_at
-returns_then_bytes_at c =
+returns-then-bytes-at c =
     let a = c.args in
     let bytes = a.bytes.now in
     let at = a.at in
@@ -21,6 +21,4 @@ returns_then_bytes_at c =
 pub returns : goal.returns
 unfolding word_at
 returns c =
-    let fourth = c.before.before in
-    let third = fourth.before in
-    rw (c.word.ensures, fourth.byte_at-d.ensures, third.byte_at-c.ensures, third.byte_at-b.ensures)
+    rw (c.word.ensures, c.byte_at-d.ensures, c.byte_at-c.ensures, c.byte_at-b.ensures)

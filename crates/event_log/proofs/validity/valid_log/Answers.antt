@@ -10,15 +10,15 @@ returns-then-clocks-gt-MAX_ROWS c =
     let a = c.args in
     rw (lt-leb (length a.clocks.now) 1024 (omega arith))
 
-pub returns_then_known_clocks : goal.returns_then_known_clocks
+pub returns-then-known-clocks : goal.returns-then-known-clocks
 unfolding valid_log
-returns_then_known_clocks c =
+returns-then-known-clocks c =
     let a = c.args in
     rw (le-leb (length a.clocks.now) 1024 (omega arith), ne_eqb (length a.known.now) (length a.clocks.now) c.if-known-clocks.true)
 
-pub returns_then_values_clocks : goal.returns_then_values_clocks
+pub returns-then-values-clocks : goal.returns-then-values-clocks
 unfolding valid_log
-returns_then_values_clocks c =
+returns-then-values-clocks c =
     let a = c.args in
     rw (
       le-leb (length a.clocks.now) 1024 c.if-clocks-gt-MAX_ROWS.false,

@@ -3,15 +3,15 @@ use borrow.Author.Tests.{lt-ltb, le-ltb, eq-eqb, ne_eqb}
 use Rattle.event_log.specs.Validity.{valid_place}
 use Rattle.event_log.proofs.validity.valid_place.Goals as goal
 
-pub returns_then_row_clocks : goal.returns_then_row_clocks
+pub returns-then-row-clocks : goal.returns-then-row-clocks
 unfolding valid_place
-returns_then_row_clocks c =
+returns-then-row-clocks c =
     let a = c.args in
     rw (lt-ltb a.at.row (length a.clocks.now) c.if-row-clocks.true)
 
-pub returns_then_row_clocks_2 : goal.returns_then_row_clocks_2
+pub returns-then-row-clocks-2 : goal.returns-then-row-clocks-2
 unfolding valid_place
-returns_then_row_clocks_2 c =
+returns-then-row-clocks-2 c =
     let a = c.args in
     rw (le-ltb a.at.row (length a.clocks.now) c.if-row-clocks.false, eq-eqb a.at.row (length a.clocks.now) c.if-row-clocks-2.true)
 

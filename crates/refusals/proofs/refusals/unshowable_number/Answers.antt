@@ -1,7 +1,0 @@
-use Rattle.refusals.proofs.refusals.unshowable_number.Goals as goal
-
-pub returns_in_input : goal.returns_in_input
-returns_in_input c = simp c.enum_told-1.is
-
-pub returns_in_room : goal.returns_in_room
-returns_in_room c = simp c.enum_told-in-Room-1.is
