@@ -18,7 +18,7 @@ use Rattle.isa.specs.declared.reader.Decoded.{Decoded}
 use Rattle.isa.specs.declared.encoding.Encoded.{Encoded}
 use Rattle.families.proofs.Tests.{cond_elim, bounds}
 use Rattle.isa.proofs.Bytes.{respell, reread}
-use Rattle.isa.proofs.Opcode as op
+use Rattle.isa.proofs.OpcodeLaws as op
 use Rattle.isa.proofs.Reading.{all_there}
 use Rattle.isa.proofs.Writing.{written, wait_fits_lem}
 

@@ -1,4 +1,4 @@
-pub mod Opcode
+pub mod OpcodeLaws
 pub mod Bytes
 pub mod Reading
 pub mod Writing

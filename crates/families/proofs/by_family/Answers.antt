@@ -2,21 +2,21 @@ use Rattle.std.proofs.Common.{ne_eqb, arith}
 use Rattle.families.specs.Family.{by_family}
 use Rattle.families.proofs.by_family.Goals as goal
 
-pub returns_in_1 : goal.returns_in_1
+pub returns-in-1 : goal.returns-in-1
 unfolding by_family
-returns_in_1 c = simp c.in-1.is
+returns-in-1 c = simp c.in-1.is
 
-pub returns_in_2 : goal.returns_in_2
+pub returns-in-2 : goal.returns-in-2
 unfolding by_family
-returns_in_2 c = simp c.in-2.is
+returns-in-2 c = simp c.in-2.is
 
-pub returns_in_3 : goal.returns_in_3
+pub returns-in-3 : goal.returns-in-3
 unfolding by_family
-returns_in_3 c = simp c.in-3.is
+returns-in-3 c = simp c.in-3.is
 
-pub returns_in_4 : goal.returns_in_4
+pub returns-in-4 : goal.returns-in-4
 unfolding by_family
-returns_in_4 c = simp c.in-4.is
+returns-in-4 c = simp c.in-4.is
 
 pub returns-in_default : goal.returns-in_default
 unfolding by_family

@@ -1,7 +1,7 @@
 -- Assumes nothing.
 use native.Mathlib.Omega.{arith}
 use mathlib.Core.Path.{◌∙◌}
-use Rattle.isa.proofs.Opcode.{wait, exit, unset, set1, set0, addr_lo, data_lo, ewait, addr, data32, unknown}
+use Rattle.isa.proofs.OpcodeLaws.{wait, exit, unset, set1, set0, addr_lo, data_lo, ewait, addr, data32, unknown}
 use borrow.Author.Rules.{rules}
 use Rattle.isa_reader.proofs.opcodes.opcode_at.Statement.{statement}
 use Rattle.isa_reader.proofs.opcodes.opcode_at.Tie as tie
