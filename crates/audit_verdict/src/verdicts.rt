@@ -2,7 +2,7 @@
 use isa::{CodeAddress, MmioAddress};
 use refusals::Fault;
 
-#[derive(Drop)]
+#[derive(Clone, Copy)]
 pub enum Verdict {
     Pass {
         // where the script exits
@@ -18,14 +18,14 @@ pub enum Verdict {
 }
 
 // What ADDR holds, where the script has set it.
-#[derive(Drop)]
+#[derive(Clone, Copy)]
 pub enum KnownAddress {
     Unset,
     At(MmioAddress),
 }
 
 // What is known at a place of the script.
-#[derive(Drop)]
+#[derive(Clone, Copy)]
 pub struct Knowledge {
     pub addr: KnownAddress,
     // whether both halves of DATA are set
@@ -38,7 +38,7 @@ pub struct Knowledge {
 }
 
 // What is said of one instruction.
-#[derive(Drop)]
+#[derive(Clone, Copy)]
 pub enum Judgement {
     Fine,
     Exit,

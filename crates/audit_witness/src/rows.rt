@@ -9,7 +9,7 @@ use event_log::Row;
 use machine_actions::Action;
 
 // The log as far as it is made: the present row, how many rows stand before it, and the steps and writes up to here.
-#[derive(Drop)]
+#[derive(Clone, Copy)]
 pub struct Timeline {
     pub row: Row,
     pub before: usize,

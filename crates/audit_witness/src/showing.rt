@@ -17,7 +17,7 @@ use refusals::{Fault, Unshowable};
 pub const MAX_SHOWN: usize = 171;
 
 // The verdict, the rows of the log, and the steps and writes before the place.
-#[derive(Drop)]
+#[derive(Clone, Copy)]
 pub struct Shown {
     pub verdict: Verdict,
     pub rows: usize,
@@ -25,7 +25,7 @@ pub struct Shown {
     pub writes: usize,
 }
 
-#[derive(Drop)]
+#[derive(Clone, Copy)]
 pub enum WitnessAnswer {
     Shown(Shown),
     Refused(Unshowable),

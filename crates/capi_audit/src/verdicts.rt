@@ -7,7 +7,7 @@ use audit_verdict::Verdict;
 use isa::CodeAddress;
 
 #[repr(C)]
-#[derive(Drop)]
+#[derive(Clone, Copy)]
 pub struct AuditReply {
     // 0 for a pass, or the first fault
     pub verdict: u8,

@@ -5,7 +5,7 @@ ghost use Rattle.capi_codec.specs.Decoding.{decoded_reply, instruction_reply, un
 use isa::{Decoded, Instruction};
 
 #[repr(C)]
-#[derive(Drop)]
+#[derive(Clone, Copy)]
 pub struct DecodeReply {
     // 0, or why there is no instruction
     pub refusal: u8,

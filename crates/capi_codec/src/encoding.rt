@@ -6,7 +6,7 @@ ghost use Rattle.capi_codec.specs.Encoding.{unwritten_reply, encoded_reply, Hwsq
 use isa::{Encoded, Instruction, MmioAddress};
 
 #[repr(C)]
-#[derive(Drop)]
+#[derive(Clone, Copy)]
 pub struct EncodeReply {
     // 0, or why nothing was written
     pub refusal: u8,
@@ -15,7 +15,7 @@ pub struct EncodeReply {
 }
 
 // What a kind and two operands name.
-#[derive(Drop)]
+#[derive(Clone, Copy)]
 pub enum Named {
     Instruction(Instruction),
     // an operand that addrlo, datalo or ewait has no room for

@@ -3,7 +3,7 @@ ghost use Rattle.std.specs.Prelude.{◌≡◌};
 ghost use Rattle.capi_codec.specs.Facts.{unknown_number, family_reply};
 
 #[repr(C)]
-#[derive(Drop)]
+#[derive(Clone, Copy)]
 pub struct FamilyReply {
     // 0, or 9 for a number that names no family
     pub refusal: u8,

@@ -7,7 +7,7 @@ use host_registers::{Access, Outcome, ReadAnswer};
 use isa::MmioAddress;
 
 #[repr(C)]
-#[derive(Drop)]
+#[derive(Clone, Copy)]
 pub struct AccessReply {
     // 0, or why the state is as it was
     pub refusal: u8,
@@ -15,7 +15,7 @@ pub struct AccessReply {
 }
 
 #[repr(C)]
-#[derive(Drop)]
+#[derive(Clone, Copy)]
 pub struct ReadReply {
     // 0, or why nothing was read
     pub refusal: u8,

@@ -11,7 +11,7 @@ use machine_state::SlotName;
 use machine_step::Stepped;
 
 // What a step did, as numbers.
-#[derive(Drop)]
+#[derive(Clone, Copy)]
 pub struct EffectNumbers {
     pub refusal: u8,
     pub kind: u8,
@@ -21,7 +21,7 @@ pub struct EffectNumbers {
 }
 
 #[repr(C)]
-#[derive(Drop)]
+#[derive(Clone, Copy)]
 pub struct StepReply {
     // 0, or why there was no step
     pub refusal: u8,

@@ -9,7 +9,7 @@ use isa::{CodeAddress, MmioAddress};
 use run::{Ending, ReplayAnswer, Replayed};
 
 #[repr(C)]
-#[derive(Drop)]
+#[derive(Clone, Copy)]
 pub struct ReplayReply {
     // 0, or why there was no run
     pub refusal: u8,

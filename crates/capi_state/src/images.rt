@@ -7,7 +7,7 @@ use machine_flags::Flags;
 use machine_state::{Mode, Slot, State};
 
 #[repr(C)]
-#[derive(Drop)]
+#[derive(Clone, Copy)]
 pub struct SlotImage {
     // 0 idle, 1 running, 2 waiting, 3 blocked, 4 hung
     pub mode: u8,
@@ -17,7 +17,7 @@ pub struct SlotImage {
 }
 
 #[repr(C)]
-#[derive(Drop)]
+#[derive(Clone, Copy)]
 pub struct StateImage {
     pub family: u8,
     pub enable: bool,

@@ -9,7 +9,7 @@ use audit_witness::{Shown, WitnessAnswer};
 use isa::CodeAddress;
 
 #[repr(C)]
-#[derive(Drop)]
+#[derive(Clone, Copy)]
 pub struct WitnessReply {
     // 0, 9 or 14
     pub refusal: u8,

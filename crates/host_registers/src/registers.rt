@@ -1,7 +1,7 @@
 // The registers of the sequencer.
 use isa::CodeAddress;
 
-#[derive(Drop)]
+#[derive(Clone, Copy)]
 pub enum Register {
     Control,
     EntryPoint,

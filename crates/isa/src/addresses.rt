@@ -1,9 +1,9 @@
 // The two kinds of address, kept apart by their types.
 
 // A place in code RAM, counted in bytes.
-#[derive(Drop)]
+#[derive(Clone, Copy)]
 pub struct CodeAddress(pub usize);
 
 // The address of a register in MMIO space.
-#[derive(Drop)]
+#[derive(Clone, Copy)]
 pub struct MmioAddress(pub u32);

@@ -1,7 +1,7 @@
 // An instruction with its operands.
 use crate::addresses::MmioAddress;
 
-#[derive(Drop)]
+#[derive(Clone, Copy)]
 pub enum Instruction {
     // (length << 2 * shift) * 32 clocks; the two are kept apart, since they are spelled apart
     Wait { length: u8, shift: u8 },

@@ -1,6 +1,6 @@
 // What the first byte of an instruction stands for.
 
-#[derive(Drop)]
+#[derive(Clone, Copy)]
 pub enum Opcode {
     Wait,
     AddrLo,

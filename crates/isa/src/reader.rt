@@ -2,7 +2,7 @@
 use crate::instructions::Instruction;
 use refusals::Unreadable;
 
-#[derive(Drop)]
+#[derive(Clone, Copy)]
 pub enum Decoded {
     // the instruction, and how many bytes it takes
     Instruction(Instruction, usize),

@@ -10,7 +10,7 @@ use isa::{Encoded, Instruction, Opcode};
 use refusals::Unwritable;
 
 // The bytes of an instruction.
-#[derive(Drop)]
+#[derive(Clone, Copy)]
 pub enum Spelling {
     One(u8),
     Three(u8, u8, u8),

@@ -19,7 +19,7 @@ use machine_state::Sequencer;
 use probe_captures::{Masks, after_row, row_known, row_values};
 
 // What a record that makes or changes the state left of it, beside the code RAM.
-#[derive(Drop)]
+#[derive(Clone, Copy)]
 pub struct StateRead {
     // the refusal's number, 0 for none
     pub number: u8,
@@ -27,7 +27,7 @@ pub struct StateRead {
 }
 
 // What a row left of the masks of captures.
-#[derive(Drop)]
+#[derive(Clone, Copy)]
 pub struct RowRead {
     pub number: u8,
     pub masks: Masks,

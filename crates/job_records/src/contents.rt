@@ -9,7 +9,7 @@ use machine_state::State;
 use probe_captures::{Probes, no_probes};
 
 // How many records of each kind were read, and the rank of the last one, 0 before the first.
-#[derive(Drop)]
+#[derive(Clone, Copy)]
 pub struct Counts {
     pub rank: u8,
     pub families: usize,
@@ -19,7 +19,7 @@ pub struct Counts {
 }
 
 // What a job says. Only the first entries of its arrays are read: two for each range, one for each row.
-#[derive(Drop)]
+#[derive(Clone, Copy)]
 pub struct Job {
     pub counts: Counts,
     // first and last address of each range

@@ -16,7 +16,7 @@ pub const MAX_BYTES: usize = 32768;
 
 // What was read: the refusal's number, 0 for a job without fault, the offset of the record at fault or of the end, and what
 // the records before it say.
-#[derive(Drop)]
+#[derive(Clone, Copy)]
 pub struct JobRead {
     pub number: u8,
     pub at: usize,

@@ -22,7 +22,7 @@ pub(crate) const END: u8 = 0;
 const MAX_WRITES: usize = 512;
 
 // What is known of a kind, after so many records.
-#[derive(Drop)]
+#[derive(Clone, Copy)]
 pub struct Kind {
     // its place in the order, from 1; 0 for a kind that there is not
     pub rank: u8,

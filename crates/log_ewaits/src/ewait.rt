@@ -8,7 +8,7 @@ use event_log::Place;
 use log_waits::unused;
 
 // Where the search ended, and the clocks that it passed by.
-#[derive(Drop)]
+#[derive(Clone, Copy)]
 pub enum Released {
     At(Place, u64),
     End(u64),

@@ -4,7 +4,7 @@ ghost use Rattle.log_waits.specs.Wait.{Waits};
 use crate::row::unused;
 use event_log::Place;
 
-#[derive(Drop)]
+#[derive(Clone, Copy)]
 pub struct Waited {
     pub place: Place,
     // what the log's end cut off; 0 where the wait is done

@@ -7,13 +7,13 @@ use isa::Instruction;
 use machine_flags::Change;
 
 // Whether an operand is a whole word, or its low half.
-#[derive(Drop)]
+#[derive(Clone, Copy)]
 pub enum Part {
     Whole,
     Low,
 }
 
-#[derive(Drop)]
+#[derive(Clone, Copy)]
 pub enum Action {
     Wait(u64),
     Ewait(u8, u8),

@@ -3,14 +3,14 @@ ghost use Rattle.std.specs.Prelude.{◌≡◌};
 ghost use Rattle.machine_flags.specs.Flags.{ChangesFlags, paused_of, TellsWord0, TellsWord1, MadeOf};
 
 // What an instruction does to a flag.
-#[derive(Drop)]
+#[derive(Clone, Copy)]
 pub enum Change {
     Unset,
     Set1,
     Set0,
 }
 
-#[derive(Drop)]
+#[derive(Clone, Copy)]
 pub struct Flags {
     pub values: u32,
     pub enables: u32,

@@ -11,7 +11,7 @@ use machine_time::Elapsed;
 use refusals::{Unreadable, Unsteppable};
 
 // What a step did.
-#[derive(Drop)]
+#[derive(Clone, Copy)]
 pub enum Effect {
     Refused(Unsteppable),
     // the slot was idle, hung, blocked or waiting, or the family has no such slot
@@ -25,7 +25,7 @@ pub enum Effect {
     Wrote(MmioAddress, u32),
 }
 
-#[derive(Drop)]
+#[derive(Clone, Copy)]
 pub struct SlotStep {
     pub slot: Slot,
     pub flags: Flags,

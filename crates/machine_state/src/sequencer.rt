@@ -6,7 +6,7 @@ use crate::slots::Slot;
 use crate::state::State;
 use machine_flags::Flags;
 
-#[derive(Drop)]
+#[derive(Clone, Copy)]
 pub struct Sequencer {
     pub family: u8,
     pub flags: Flags,

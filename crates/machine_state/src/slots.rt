@@ -4,14 +4,14 @@ ghost use Rattle.machine_state.specs.Slot.{has_slot, is_running, is_idle};
 
 use isa::{CodeAddress, MmioAddress};
 
-#[derive(Drop)]
+#[derive(Clone, Copy)]
 pub enum SlotName {
     A,
     B,
 }
 
 // What a slot does. It executes unless idle.
-#[derive(Drop)]
+#[derive(Clone, Copy)]
 pub enum Mode {
     Idle,
     Running,
@@ -23,7 +23,7 @@ pub enum Mode {
     Hung,
 }
 
-#[derive(Drop)]
+#[derive(Clone, Copy)]
 pub struct Slot {
     pub mode: Mode,
     pub ip: CodeAddress,

@@ -5,7 +5,7 @@ ghost use Rattle.machine_state.specs.Slot.{slot_of, with_slot};
 use crate::slots::{Slot, SlotName};
 use machine_flags::Flags;
 
-#[derive(Drop)]
+#[derive(Clone, Copy)]
 pub struct State {
     pub family: u8,
     pub code: [u8; families::MAX_CODE],

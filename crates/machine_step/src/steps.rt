@@ -15,7 +15,7 @@ use machine_state::{Mode, SlotName, State, has_slot, is_running, slot_of, with_s
 use machine_time::elapse;
 use refusals::Unsteppable;
 
-#[derive(Drop)]
+#[derive(Clone, Copy)]
 pub struct Stepped {
     pub state: State,
     pub place: Place,

@@ -8,7 +8,7 @@ use event_log::Place;
 use log_ewaits::Released;
 use machine_actions::Action;
 
-#[derive(Drop)]
+#[derive(Clone, Copy)]
 pub struct Elapsed {
     pub place: Place,
     // whether the action is done; only a wait or an ewait may not be

@@ -4,7 +4,7 @@ ghost use Rattle.refusals.specs.Number.{unreadable_number, unwritable_number, un
 ghost use Rattle.refusals.specs.Number.{unreplayable_number, unshowable_number};
 
 // Why there is no instruction.
-#[derive(Drop)]
+#[derive(Clone, Copy)]
 pub enum Unreadable {
     Family,
     Empty,
@@ -15,7 +15,7 @@ pub enum Unreadable {
 }
 
 // Why the instruction is not written.
-#[derive(Drop)]
+#[derive(Clone, Copy)]
 pub enum Unwritable {
     Family,
     NotOnFamily,
@@ -24,14 +24,14 @@ pub enum Unwritable {
 }
 
 // Why a step is refused.
-#[derive(Drop)]
+#[derive(Clone, Copy)]
 pub enum Unsteppable {
     Family,
     Log,
 }
 
 // Why the host is refused.
-#[derive(Drop)]
+#[derive(Clone, Copy)]
 pub enum Inaccessible {
     Family,
     // no register of the family that can be written, or read
@@ -41,7 +41,7 @@ pub enum Inaccessible {
 }
 
 // What is wrong with a script.
-#[derive(Drop)]
+#[derive(Clone, Copy)]
 pub enum Fault {
     // a byte past the code RAM
     PastRam,
@@ -64,7 +64,7 @@ pub enum Fault {
 }
 
 // Why a replay is refused.
-#[derive(Drop)]
+#[derive(Clone, Copy)]
 pub enum Unreplayable {
     Input,
     Room,
@@ -72,7 +72,7 @@ pub enum Unreplayable {
 }
 
 // Why no log is made that shows a verdict.
-#[derive(Drop)]
+#[derive(Clone, Copy)]
 pub enum Unshowable {
     Input,
     Room,

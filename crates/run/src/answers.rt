@@ -6,7 +6,7 @@ use machine_state::Slot;
 use refusals::Unreplayable;
 
 // How a run ended.
-#[derive(Drop)]
+#[derive(Clone, Copy)]
 pub enum Ending {
     Exit,
     // in a wait, the log used up
@@ -18,7 +18,7 @@ pub enum Ending {
     Stop,
 }
 
-#[derive(Drop)]
+#[derive(Clone, Copy)]
 pub struct Replayed {
     pub ending: Ending,
     pub ip: CodeAddress,
@@ -37,7 +37,7 @@ pub struct Replayed {
 }
 
 // How far a slot's run came.
-#[derive(Drop)]
+#[derive(Clone, Copy)]
 pub struct Progress {
     pub slot: Slot,
     pub flags: Flags,
@@ -50,13 +50,13 @@ pub struct Progress {
     pub searched: u64,
 }
 
-#[derive(Drop)]
+#[derive(Clone, Copy)]
 pub enum RunAnswer {
     Ended(Progress),
     Refused(Unreplayable),
 }
 
-#[derive(Drop)]
+#[derive(Clone, Copy)]
 pub enum ReplayAnswer {
     Ended(Replayed),
     Refused(Unreplayable),

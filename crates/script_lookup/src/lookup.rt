@@ -6,7 +6,7 @@ ghost use Rattle.script_lookup.specs.Promises.{Searches};
 use isa::MmioAddress;
 
 // Whether a range holds the address, and at how many ranges was looked.
-#[derive(Drop)]
+#[derive(Clone, Copy)]
 pub struct Lookup {
     pub listed: bool,
     pub looks: usize,
