@@ -2,8 +2,8 @@
 ghost use Rattle.std.specs.Prelude.{◌≡◌, cond};
 ghost use Rattle.machine_slot.specs.SlotStep.{mode_after, ip_after, addr_after, data_after, flags_after, effect_of, perform_at, same_slot_step, unfetched_at};
 
-use isa::{CodeAddress, MmioAddress};
 use event_log::Place;
+use isa::{CodeAddress, MmioAddress};
 use machine_actions::{Action, merge};
 use machine_flags::{Flags, changed_flags};
 use machine_state::{Mode, Slot};
