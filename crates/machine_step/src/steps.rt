@@ -7,8 +7,8 @@ ghost use Rattle.event_log.specs.Log.{log_of};
 ghost use Rattle.event_log.specs.Validity.{valid_log, valid_place};
 ghost use Rattle.machine_step.specs.Promises.{Steps};
 
-use isa::{CodeAddress, Decoded};
 use event_log::Place;
+use isa::{CodeAddress, Decoded};
 use machine_actions::action_of;
 use machine_slot::{Effect, SlotStep, perform, unfetched};
 use machine_state::{Mode, SlotName, State, has_slot, is_running, slot_of, with_slot};
