@@ -2,7 +2,7 @@
 ghost use Rattle.probe_gates.specs.Voltage.{Calibrates};
 
 // Raw by gain plus offset is volts.
-#[derive(Drop)]
+#[derive(Clone, Copy)]
 pub struct Calibration {
     pub gain: f32,
     pub offset: f32,

@@ -6,7 +6,7 @@ ghost use Rattle.probe_gates.specs.Reading.{GateReads, IsBetween, at_levels};
 use probe_floats::is_finite;
 
 // Levels are in volts.
-#[derive(Drop)]
+#[derive(Clone, Copy)]
 pub enum Gate {
     Normal { low: f32, high: f32 },
     Inverted { low: f32, high: f32 },
@@ -14,7 +14,7 @@ pub enum Gate {
 }
 
 // What a probe says of its event. Missing is no reading, and not 0.
-#[derive(Drop)]
+#[derive(Clone, Copy)]
 pub enum Reading {
     Zero,
     One,

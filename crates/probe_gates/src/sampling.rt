@@ -9,7 +9,7 @@ use crate::gate::{Gate, Reading};
 use probe_floats::{float_of, is_finite};
 
 // Refused is 01's refusal 16.
-#[derive(Drop)]
+#[derive(Clone, Copy)]
 pub enum Sampled {
     Read(Reading),
     Refused,
