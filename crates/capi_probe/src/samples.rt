@@ -5,7 +5,7 @@ ghost use Rattle.capi_probe.specs.Samples.{gate_of, unsampled_reply, reading_cod
 use probe_gates::{Calibration, Gate, Reading, Sampled};
 
 #[repr(C)]
-#[derive(Drop)]
+#[derive(Clone, Copy)]
 pub struct SampleReply {
     // 0, or 16
     pub refusal: u8,
