@@ -18,7 +18,7 @@ returns-then-not-taken c =
     simp (
       sym c.known_family.ensures ∙ c.if-not-known_family.false,
       sym c.is_writable.ensures ∙ c.if-not-is_writable.false,
-      not-true c.args.taken c.if-not-taken.true,
+      c.if-not-taken.true,
     )
 
 pub returns : goal.returns
@@ -27,5 +27,5 @@ returns c =
     simp (
       sym c.known_family.ensures ∙ c.if-not-known_family.false,
       sym c.is_writable.ensures ∙ c.if-not-is_writable.false,
-      not-false c.args.taken c.if-not-taken.false,
+      c.if-not-taken.false,
     )

@@ -4,7 +4,7 @@ use mathlib.Core.Path.{◌∙◌}
 use Rattle.host_access.proofs.addresses.code_at.Goals as goal
 
 pub returns-in-5120-to-5375 : goal.returns-in-5120-to-5375
-returns-in-5120-to-5375 c = rw c.code_size.ensures.answered at c.Code-in.ensures ∙ in_code _ _ (omega arith) (omega arith)
+returns-in-5120-to-5375 c = rw c.code_size.ensures.answered at c.code_in.ensures ∙ in_code _ _ (omega arith) (omega arith)
 
 pub returns-in-524288-to-524799 : goal.returns-in-524288-to-524799
 returns-in-524288-to-524799 c = rw c.high_window.ensures at c.code_in-in-524288-to-524799.ensures ∙ in_new_code _ _ (omega arith) (omega arith)
