@@ -1,8 +1,6 @@
--- What the auditor promises of its verdict: the defined one, its number, demand 3 about it, and the log that shows it; what it is on the starred scripts; and
--- how few ranges are looked at.
+-- What the auditor promises of its verdict: the defined one, its number, demand 3 about it, and the log that shows it; and what it is on the starred scripts.
 use Rattle.std.specs.Prelude.{ℕ, ◌≡◌, List}
 use Rattle.script.specs.Script.{Script}
-use Rattle.script_lookup.specs.Promises.{QuickLookups}
 use Rattle.audit_verdict.specs.Auditor.{verdict_number, audit_of}
 use Rattle.audit_verdict.specs.Numbers.{audit_number}
 use Rattle.audit_verdict.specs.Demand3.{Demand3}
@@ -19,5 +17,3 @@ pub record Audits (script : Script) (ranges : List ℕ) (answer : Verdict) : Typ
   pub witnessed : Witnessed script ranges answer
   -- of the definition, and so of every answer
   pub starred : Starred
-  -- 02, ticket 2: how its pokes' addresses are looked up in ranges that rise
-  pub quick : QuickLookups ranges

@@ -3,8 +3,6 @@ ghost use Rattle.std.specs.Prelude.{◌≡◌, cond, ◌&&◌, eqb, ◌+◌, ◌
 ghost use Rattle.families.specs.Family.{pauses_memory};
 ghost use Rattle.machine_flags.specs.Flags.{fb_pause};
 ghost use Rattle.audit_verdict.specs.Auditor.{target_of, judge_poke, can_release, judge_of};
-ghost use Rattle.script.specs.Input.{listed_in};
-ghost use Rattle.audit_script.specs.Inside.{Tested};
 ghost use Rattle.audit_verdict.specs.Auditor.{known_addr, known_data, known_paused, poke_count, wait_length, loads_both, is_set1, know_next, know_nothing};
 
 use audit_verdict::{Judgement, Knowledge, KnownAddress};
@@ -13,7 +11,6 @@ use machine_actions::{Action, Part};
 use machine_flags::Change;
 use refusals::Fault;
 use script::listed;
-use script_lookup::search;
 
 // Where a poke goes, as far as the script has said.
 fn target_of(part: Part, word: u32, known: KnownAddress) -> KnownAddress
@@ -30,28 +27,14 @@ fn target_of(part: Part, word: u32, known: KnownAddress) -> KnownAddress
     }
 }
 
-// Whether a range holds the address: by halves in ranges that rise, and else range after range.
-fn is_listed(ranges: &[u32], rising: bool, address: MmioAddress) -> bool
-    requires { Tested ranges.now rising }
-    ensures { result ≡ listed_in ranges.now address.0 }
-{
-    if rising {
-        let found = search(ranges, address);
-        found.listed
-    } else {
-        listed(ranges, address)
-    }
-}
-
-fn judge_poke(ranges: &[u32], rising: bool, target: KnownAddress, halves: bool) -> Judgement
-    requires { Tested ranges.now rising }
+fn judge_poke(ranges: &[u32], target: KnownAddress, halves: bool) -> Judgement
     ensures { result ≡ judge_poke ranges.now target halves }
 {
     match target {
         KnownAddress::Unset => Judgement::Bad(Fault::NoAddress),
         KnownAddress::At(address) => {
             if halves {
-                if is_listed(ranges, rising, address) {
+                if listed(ranges, address) {
                     Judgement::Fine
                 } else {
                     Judgement::Bad(Fault::Outside)
@@ -94,14 +77,7 @@ fn judge_exit(family: u8, paused: bool) -> Judgement
     }
 }
 
-pub(crate) fn judge(
-    family: u8,
-    ranges: &[u32],
-    rising: bool,
-    action: Action,
-    known: Knowledge,
-) -> Judgement
-    requires { Tested ranges.now rising }
+pub fn judge(family: u8, ranges: &[u32], action: Action, known: Knowledge) -> Judgement
     ensures { result ≡ judge_of family ranges.now action known }
 {
     let addr = known.addr;
@@ -110,9 +86,7 @@ pub(crate) fn judge(
         Action::Ewait(event, value) => judge_ewait(event, value),
         Action::Flag(_, _) => Judgement::Fine,
         Action::Load(_, _) => Judgement::Fine,
-        Action::Poke(part, word) => {
-            judge_poke(ranges, rising, target_of(part, word, addr), known.data)
-        }
+        Action::Poke(part, word) => judge_poke(ranges, target_of(part, word, addr), known.data),
         Action::Exit => judge_exit(family, known.paused),
     }
 }

@@ -11,7 +11,6 @@ use audit_verdict::{Judgement, Verdict};
 use isa::{CodeAddress, Decoded};
 use refusals::{Fault, Unreadable};
 use script::{ranges_fit, script_fits};
-use script_lookup::ranges_rise;
 
 // The verdict on a script; the ranges are firsts and lasts, one after the other.
 pub fn audit<'a>(
@@ -46,7 +45,7 @@ fn fault_of(why: Unreadable) -> Fault
     }
 }
 
-// From the entry to the first exit or fault. How the ranges lie is tested once, for all its lookups.
+// From the entry to the first exit or fault.
 fn walk<'a>(
     family: u8,
     code: &'a [u8],
@@ -57,7 +56,6 @@ fn walk<'a>(
     requires { input_fits (script_of family code.now marks.now entry.0) ranges.now ≡ true }
     ensures { result ≡ walk_of (script_of family code.now marks.now entry.0) ranges.now }
 {
-    let rising = ranges_rise(ranges);
     let mut at = entry.0;
     let mut known = know_nothing();
     let verdict = loop {
@@ -66,7 +64,7 @@ fn walk<'a>(
             break Verdict::Fault(fault_of(isa_fetch::reason_of(found)), CodeAddress(at));
         };
         let action = machine_actions::action_of(instruction);
-        let judgement = judge(family, ranges, rising, action, known);
+        let judgement = judge(family, ranges, action, known);
         match judgement {
             Judgement::Fine => {
                 known = know_next(action, known);

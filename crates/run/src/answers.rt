@@ -1,6 +1,6 @@
 // What the run of a slot answers, and what replay tells of it.
-use isa::{CodeAddress, MmioAddress};
 use event_log::Place;
+use isa::{CodeAddress, MmioAddress};
 use machine_flags::Flags;
 use machine_state::Slot;
 use refusals::Unreplayable;

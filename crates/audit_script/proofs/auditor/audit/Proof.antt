@@ -7,7 +7,6 @@ use borrow.Author.Rules.{rules}
 use borrow.Author.Tests.{not-true, not-false}
 use Rattle.script.specs.Script.{Script, script_of}
 use Rattle.script.specs.Input.{script_fits, ranges_fit}
-use Rattle.script_lookup.proofs.SearchLaws.{quick_lookups}
 use Rattle.audit_verdict.specs.Auditor.{verdict_number, audit_of}
 use Rattle.audit_verdict.specs.Demand3.{Demand3}
 use Rattle.audit_verdict.specs.Witness.{Witnessed}
@@ -38,7 +37,6 @@ module _ (c : tie.After-script-fits) where
     demand3 = subst (Demand3 script ranges) (sym e) (demand3 script ranges (λ i. (bytes_known.shared-slice-known.given i).fits));
     witnessed = subst (Witnessed script ranges) (sym e) (audit_witnessed script ranges (λ i. (bytes_known.shared-slice-known.given i).fits));
     starred = starred;
-    quick = quick_lookups ranges;
   }
 
 -- the script fits

@@ -8,17 +8,14 @@ use borrow.Author.Rules.{rules}
 use Rattle.families.specs.Family.{code_size}
 use Rattle.isa.specs.declared.instructions.Instruction.{Instruction}
 use Rattle.isa.specs.declared.reader.Decoded.{Decoded}
-use Rattle.families.proofs.Tests.{both_left, both_right}
+use Rattle.families.proofs.Tests.{both_left}
 use Rattle.refusals.specs.declared.refusals.Fault.{Fault}
 use Rattle.isa_fetch.specs.Fetch.{reason_of}
 use Rattle.isa_fetch.proofs.Places.{size_small}
 use Rattle.machine_actions.specs.Action.{action_of}
 use Rattle.machine_actions.specs.declared.actions.Action.{Action}
 use Rattle.script.specs.Script.{Script, script_of, fetch_at}
-use Rattle.script.specs.Input.{script_fits, ranges_fit}
 use Rattle.script.proofs.Scripts.{fits_script}
-use Rattle.script.proofs.RangeLaws.{fit_paired}
-use Rattle.audit_script.specs.Inside.{Tested}
 use Rattle.audit_verdict.specs.Auditor.{fault_of, fault_at, judge_of, know_next}
 use Rattle.audit_verdict.specs.declared.verdicts.Knowledge.{Knowledge}
 use Rattle.audit_script.proofs.Walking.{Going, going_first, going_none, going_exit, going_bad, going_on, going_fits}
@@ -27,27 +24,21 @@ use Rattle.audit_script.proofs.auditor.walk.Tie as tie
 
 -- the walk begins at the entry
 abbrev invariant-loop : tie.invariant-loop
-invariant-loop family code marks ranges rising at₀ known₀ at known = Going (script_of family code marks at₀) ranges at known
+invariant-loop family code marks ranges at₀ known₀ at known = Going (script_of family code marks at₀) ranges at known
 
 abbrev decreases-loop : tie.decreases-loop
-decreases-loop family code marks ranges rising at₀ known₀ at known = 512 - at
+decreases-loop family code marks ranges at₀ known₀ at known = 512 - at
 
 -- what the function was given
 module _ (c : tie.After-know-nothing invariant-loop decreases-loop) where
   abbrev given : tie.Start invariant-loop decreases-loop
-  given = let lent = c.before.before in lent.before.before.before
+  given = let lent = c.before in lent.before.before.before
 
   abbrev script : Script
   script = let a = given.args in script_of a.family a.code.now a.marks.now a.entry.0
 
   abbrev ranges : List ℕ
   ranges = given.args.ranges.now
-
-  -- 9's tests were made before, and that of rising ranges here
-  tested : Tested ranges c.before.ranges_rise.result
-  tested =
-      let fit = both_right (script_fits script) (ranges_fit ranges) given.pre in
-      record { paired = fit_paired ranges fit; told = c.before.ranges_rise.ensures.answered }
 
 -- what was found, and where it lies
 module _ (c : tie.After-found invariant-loop decreases-loop) where
@@ -113,7 +104,7 @@ loop-again c =
     let goes = going_on (loop f).loop.inv (instruction f) (its_size f) (fetched f) (lies f).0 (lies f).1 fine in
     subst (Going (x f) (ranges (loop f).before) ((loop f).loop.at + its_size f)) (sym next) goes
 
-add_count : tie.Need-overflow-add-t22 invariant-loop decreases-loop
+add_count : tie.Need-overflow-add-t21 invariant-loop decreases-loop
 add_count c = let g = (loop (found c.before.before.before)).loop.inv in omega (arith, g.counted, g.low)
 
 returns : tie.Need-returns invariant-loop decreases-loop
@@ -146,7 +137,6 @@ walk_spec =
     invariant-loop
     decreases-loop
     (λ c κs. search rules)
-    (λ c κs. search rules)
     loop-holds
     (λ c κs. search rules)
     (λ c. search rules)
@@ -154,7 +144,7 @@ walk_spec =
     (λ c κs. search rules)
     (λ c κs. search rules)
     (λ c κs. search rules)
-    (λ c κs. tested (loop c.before.before).before)
+    (λ c κs. search rules)
     (λ c. search rules)
     know-next-requires
     add_at
