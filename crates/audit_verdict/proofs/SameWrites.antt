@@ -1,6 +1,6 @@
 -- Runs through the auditor's walk from any two starts, under one log, write the same step for step: no poke needs what ADDR or DATA held before. Assumes
 -- nothing.
-use Prim.Native.Nat.{ℕ, zero, suc, ◌<◌}
+use Prim.Native.Nat.{◌+◌, ℕ, zero, suc, ◌<◌}
 use mathlib.Core.Path.{◌≡◌, refl, ap, ap₂, ◌∙◌}
 use mathlib.Core.Logic.{⊎_elim}
 use mathlib.Core.Bool.{Bool, true, false}
@@ -80,10 +80,10 @@ module _ (x : Script) (ranges : List ℕ) (log : Log) where
   same_writes e w g g' s zero = s.writes
   same_writes {r = r} {r' = r'} e here g g' s (suc n) =
       rest refl n (next scene r) (next scene r') (mode_then x true log g.going e) (mode_then x true log g'.going e) (next_same g g' e s refl).writes
-  same_writes {addr} {word} {addr'} {word'} {r = r} {r' = r'} e (more action t f j w) g g' s (suc n) =
+  same_writes {addr} {word} {addr'} {word'} {p} {r = r} {r' = r'} e (more action t f j w) g g' s (suc n) =
       let wrote = j.writes addr addr' r.slot.addr.0 r'.slot.addr.0 r.slot.«data» r'.slot.«data» g.held g'.held s.held in
       let same = next_same g g' f s wrote in
-      ⊎_elim (λ d. same_writes e w (goes_on log g f j d) (goes_on log g' f j (rw s.place at d)) same n)
+      ⊎_elim (λ d. same_writes {p = p + t} e w (goes_on log g f j d) (goes_on log g' f j (rw s.place at d)) same n)
       (λ d. rest refl n (next scene r) (next scene r') (waits_then log g f j d) (waits_then log g' f j (rw s.place at d)) same.writes)
       (either (elapsed_of action log r.place).finished)
 

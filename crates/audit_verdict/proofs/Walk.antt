@@ -73,7 +73,7 @@ module _ {x : Script} {ranges : List ℕ} where
   way_is zero (more action n e f w) h = absurd (omega (arith, e.some, e.inside))
   way_is {p} {q} (suc left) (more action n e f w) h =
       let before : eqb p q ≡ false = ne_eqb p q (λ same. omega (arith, walk_forward w, e.some)) in
-      rw (before, e.found, e.acts, actions_to) (ap (λ (later : List Action). action ∷ later) (way_is left w (omega (arith, e.some))))
+      rw (before, e.found, e.acts, actions_to) (ap (λ (later : List Action). action ∷ later) (way_is {p = p + n} left w (omega (arith, e.some))))
 
 -- ---- the auditor walks so
 
