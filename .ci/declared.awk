@@ -14,7 +14,7 @@ FNR == 1 { block = ""; within = -1 }
   if (block == "field" || block == "local") next
   if (line == "where") { block = "local"; within = indent; next }
   public = ""
-  while (match(line, /^(abbrev|unfoldable|pub|private) /)) {
+  while (match(line, /^(abbrev|unfoldable|opaque|pub|private) /)) {
     if (line ~ /^pub /) public = "pub"
     line = substr(line, RLENGTH + 1)
   }
@@ -28,7 +28,7 @@ FNR == 1 { block = ""; within = -1 }
     seen = public
     next
   }
-  if (line ~ /^(use|mod|module|where|unfolding|let|infix|infixl|infixr|mutual)( |$)/) next
+  if (line ~ /^(use|mod|module|where|unfolding|let|infix|infixl|infixr|mutual|syntax)( |$)/) next
   if (match(line, /^[^:(){}=;,]+/)) {
     name = substr(line, 1, RLENGTH)
     rest = substr(line, RLENGTH + 1)

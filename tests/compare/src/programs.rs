@@ -9,7 +9,7 @@ use std::io::{self, Write};
 use std::process::{Command, Stdio};
 
 /// The programs, from the project's root.
-const PROVED: &str = "target/bin/hwsq";
+const PROVED: &str = "crates/hwsq/out/hwsq";
 const SECOND: &str = "target-rust/release/second";
 
 /// Compares the programs with each other and with the library.

@@ -24,7 +24,7 @@ pub struct Arguments {
 
 pub fn read() -> Result<Arguments, String> {
     let mut arguments = Arguments {
-        program: "target/bin/hwsq".into(),
+        program: "crates/hwsq/out/hwsq".into(),
         jobs: "jobs".into(),
         keep: "target/fuzz".into(),
         seed: 1,
