@@ -41,13 +41,13 @@ poke_small Action.Exit = omega arith
 
 module _ (x : Script) (ranges : List ℕ) where
   -- past the code RAM no instruction is left to count on, and none is found
-  none_left : (left at : ℕ) (k : Knowledge) (why : Unreadable) → code_size x.family ≤ at + left → fetch_at x at ≡ Decoded.Refused why
+  none_remain : (left at : ℕ) (k : Knowledge) (why : Unreadable) → code_size x.family ≤ at + left → fetch_at x at ≡ Decoded.Refused why
       → verdict_in left x ranges at k ≡ fault_at (fault_of why) at
   unfolding verdict_in
-  none_left zero at k why h f =
+  none_remain zero at k why h f =
       let e : Unreadable.Empty ≡ why = cc (fetch_past x.family x.code x.marks at (omega arith)) in
       ap (λ (w : Unreadable). fault_at (fault_of w) at) e
-  none_left (suc left) at k why h f = walk_none x ranges left at k why f
+  none_remain (suc left) at k why h f = walk_none x ranges left at k why f
 
   -- the loop at a place: the verdict from here is the walk's, and the counts are small
   pub record Going (at : ℕ) (k : Knowledge) : Type 0 where
@@ -72,16 +72,16 @@ module _ (x : Script) (ranges : List ℕ) where
 
 module _ {x : Script} {ranges : List ℕ} {at : ℕ} {k : Knowledge} (g : Going x ranges at k) where
   pub going_none : (why : Unreadable) → fetch_at x at ≡ Decoded.Refused why → fault_at (fault_of why) at ≡ walk_of x ranges
-  going_none why f = sym (none_left x ranges g.left at k why g.enough f) ∙ g.same
+  going_none why f = sym (none_remain x ranges g.left at k why g.enough f) ∙ g.same
 
   module _ (i : Instruction) (n : ℕ) (f : fetch_at x at ≡ Decoded.Instruction i n) (some : 0 < n) (inside : at + n ≤ code_size x.family) where
-    one_left : (l : ℕ) → g.left ≡ l → (m : ℕ) × (g.left ≡ suc m)
-    one_left zero e = absurd (omega (arith, g.enough))
-    one_left (suc m) e = (m, e)
+    one_remains : (l : ℕ) → g.left ≡ l → (m : ℕ) × (g.left ≡ suc m)
+    one_remains zero e = absurd (omega (arith, g.enough))
+    one_remains (suc m) e = (m, e)
 
     by_left : (v : Verdict) → ((m : ℕ) → verdict_in (suc m) x ranges at k ≡ v) → v ≡ walk_of x ranges
     by_left v h =
-        let o = one_left g.left refl in
+        let o = one_remains g.left refl in
         sym (ap (λ (l : ℕ). verdict_in l x ranges at k) o.1 ∙ h o.0) ∙ g.same
 
     pub going_exit : judge_of x.family ranges (action_of i) k ≡ Judgement.Exit → pass_at at k ≡ walk_of x ranges
@@ -92,7 +92,7 @@ module _ {x : Script} {ranges : List ℕ} {at : ℕ} {k : Knowledge} (g : Going 
 
     pub going_on : judge_of x.family ranges (action_of i) k ≡ Judgement.Fine → Going x ranges (at + n) (know_next (action_of i) k)
     going_on j =
-        let o = one_left g.left refl in
+        let o = one_remains g.left refl in
         record {
           left = o.0;
           enough = omega (arith, o.1, g.enough);

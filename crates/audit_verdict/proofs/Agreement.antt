@@ -27,7 +27,7 @@ use Rattle.script.specs.Script.{Script}
 use Rattle.script.proofs.Scripts.{Formed, Reads}
 use Rattle.audit_verdict.proofs.FlagLaws.{flag_law}
 use Rattle.run.proofs.Settled.{action_fetched}
-use Rattle.audit_verdict.proofs.Going.{scene_under, next, Going, performs, mode_then, going_then}
+use Rattle.audit_verdict.proofs.Going.{scene_under, after_step, Going, performs, mode_then, going_then}
 use Rattle.audit_verdict.proofs.Lapse.{Lapse, lapse}
 use Rattle.audit_verdict.proofs.Judging.{held_addr, Fine}
 
@@ -105,7 +105,7 @@ module _ {x : Script} {ranges : List ℕ} (log : Log) {addr word p n : ℕ} {k :
   step : next_slot_step (scene_under x log) r ≡ perform_of true r.slot r.flags action n elapsed
   step = performs x true log g.going e
 
-  pub goes_on : elapsed.finished ≡ true → Agree x ranges addr word (p + n) (know_next action k) (next (scene_under x log) r)
+  pub goes_on : elapsed.finished ≡ true → Agree x ranges addr word (p + n) (know_next action k) (after_step (scene_under x log) r)
   unfolding perform_of
   goes_on d = rw step (record {
     going = rw step at (going_then x true log g.going e (rw d f.goes) f.moves);
@@ -120,10 +120,10 @@ module _ {x : Script} {ranges : List ℕ} (log : Log) {addr word p n : ℕ} {k :
         (f.listed addr r.slot.addr.0 r.slot.«data» g.held);
   })
 
-  pub waits_then : elapsed.finished ≡ false → (next (scene_under x log) r).slot.mode ≡ Mode.Waiting
+  pub waits_then : elapsed.finished ≡ false → (after_step (scene_under x log) r).slot.mode ≡ Mode.Waiting
   waits_then d = mode_then x true log g.going e ∙ rw d (lapsed.mode d)
 
-  pub held_up : valid_place log.clocks r.place ≡ true → elapsed.finished ≡ false → Held ranges log (next (scene_under x log) r)
+  pub held_up : valid_place log.clocks r.place ≡ true → elapsed.finished ≡ false → Held ranges log (after_step (scene_under x log) r)
   unfolding perform_of
   held_up v d = rw step (record {
     waiting = rw step at (waits_then d);

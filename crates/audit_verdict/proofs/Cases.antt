@@ -16,11 +16,11 @@ either true = inl refl
 either false = inr refl
 
 -- a test of every number below n, which antt computes where n is a numeral
-abbrev all_below : ℕ → (ℕ → Bool) → Bool
-all_below zero f = true
-all_below (suc n) f = f 0 && all_below n (λ i. f (suc i))
+abbrev each_below : ℕ → (ℕ → Bool) → Bool
+each_below zero f = true
+each_below (suc n) f = f 0 && each_below n (λ i. f (suc i))
 
-pub below_at : (n : ℕ) (f : ℕ → Bool) → all_below n f ≡ true → (i : ℕ) → i < n → f i ≡ true
+pub below_at : (n : ℕ) (f : ℕ → Bool) → each_below n f ≡ true → (i : ℕ) → i < n → f i ≡ true
 below_at zero f t i h = absurd (omega arith)
 below_at (suc n) f t zero h = both_left (f 0) _ t
 below_at (suc n) f t (suc i) h = below_at n (λ j. f (suc j)) (both_right (f 0) _ t) i (omega arith)

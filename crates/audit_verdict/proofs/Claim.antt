@@ -27,7 +27,7 @@ use Rattle.audit_verdict.specs.declared.verdicts.Verdict.{Verdict}
 use Rattle.audit_verdict.proofs.Cases.{never}
 use Rattle.audit_verdict.proofs.Going.{scene_under, performs}
 use Rattle.audit_verdict.proofs.Walk.{Walk, actions_of, way_is, Ends, at_refused, at_bad, at_exit, Walked, audit_walks}
-use Rattle.audit_verdict.proofs.Soundness.{orderly_effect, Stands, goes, waits, exits, sound}
+use Rattle.audit_verdict.proofs.Soundness.{orderly_effect, Stands, goes, waits, exits, stays_sound}
 use Rattle.audit_verdict.proofs.Endings.{ends_well}
 use Rattle.audit_verdict.proofs.SameWrites.{same_writes}
 use Rattle.audit_verdict.proofs.WitnessRun.{witness_log}
@@ -73,7 +73,7 @@ module _ (x : Script) (ranges : List ℕ) (fit : Auditable x) (fits_so : script_
     safe = λ name s start log valid m.
         let same = slot_follows start fit.fits log valid m in
         let does = effect_follows start fit.fits log valid m ∙ ap (λ (r : SlotRun). (next_slot_step (scene_under x log) r).effect) (sym same) in
-        let stands = sound x ranges log e valid w (begun_agrees start) (valid_row_start log valid 0 (omega arith)) m m (omega arith) in
+        let stands = stays_sound x ranges log e valid w (begun_agrees start) (valid_row_start log valid 0 (omega arith)) m m (omega arith) in
         safe_in unpaused name (run_for name log m (begun s)) log m does (subst (Stands x ranges log q k m) (sym same) stands);
     same_writes = λ name name' s s' start start' log valid m.
         ap (λ (r : SlotRun). r.writes) (slot_follows start fit.fits log valid m)

@@ -24,8 +24,8 @@ use Rattle.script.proofs.Scripts.{Reads}
 use Rattle.audit_verdict.specs.Auditor.{know_nothing}
 use Rattle.audit_verdict.specs.Demand3.{EndsWell}
 use Rattle.audit_verdict.specs.declared.verdicts.Knowledge.{Knowledge}
-use Rattle.audit_verdict.proofs.Going.{next, run_rests, Going, mode_then, going_then}
-use Rattle.audit_verdict.proofs.Walk.{Walk, here, more}
+use Rattle.audit_verdict.proofs.Going.{after_step, run_rests, Going, mode_then, going_then}
+use Rattle.audit_verdict.proofs.Walk.{Walk, here, further}
 
 module _ (x : Script) (ranges : List ℕ) where
   -- a mode in which a slot rests, and its ending
@@ -58,11 +58,11 @@ module _ (x : Script) (ranges : List ℕ) where
           → Rests (slot_run_for scene n r).slot.mode
       unfolding slot_run_for
       ends_on here g zero h = absurd (omega (arith, e.some, e.inside))
-      ends_on {r = r} here g (suc n) h = rested n (next scene r) (rw (mode_then x enable log g e) (refl, tt))
-      ends_on (more action t f j w) g zero h = absurd (omega (arith, f.some, f.inside))
-      ends_on {r = r} (more action t f j w) g (suc n) h =
+      ends_on {r = r} here g (suc n) h = rested n (after_step scene r) (rw (mode_then x enable log g e) (refl, tt))
+      ends_on (further action t f j w) g zero h = absurd (omega (arith, f.some, f.inside))
+      ends_on {r = r} (further action t f j w) g (suc n) h =
           ⊎_elim (λ runs. ends_on w (going_then x enable log g f runs j.moves) n (omega (arith, f.some)))
-          (λ rests. rested n (next scene r) (rw (mode_then x enable log g f) rests))
+          (λ rests. rested n (after_step scene r) (rw (mode_then x enable log g f) rests))
           (fine_mode action enable (elapsed_of action log r.place).finished j.goes)
 
   -- of every state that holds a slot that runs from the entry

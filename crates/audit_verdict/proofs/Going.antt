@@ -22,8 +22,8 @@ abbrev pub scene_under : Script → Log → Scene
 scene_under x log = script_scene x true log
 
 -- a run after one more step
-abbrev pub next : Scene → SlotRun → SlotRun
-next y r = took_slot_step r (next_slot_step y r)
+abbrev pub after_step : Scene → SlotRun → SlotRun
+after_step y r = took_slot_step r (next_slot_step y r)
 
 -- a slot that does not run is left alone by any number of steps
 pub run_rests : (y : Scene) (r : SlotRun) → is_running r.slot.mode ≡ false → (m : ℕ) → slot_run_for y m r ≡ r
@@ -44,13 +44,13 @@ module _ (x : Script) (enable : Bool) (log : Log) {p : ℕ} {r : SlotRun} (g : G
     performs = simp (g.runs, g.ip, e.found, e.acts)
 
     -- the mode after it
-    pub mode_then : (next (script_scene x enable log) r).slot.mode ≡ mode_after action enable (elapsed_of action log r.place).finished
+    pub mode_then : (after_step (script_scene x enable log) r).slot.mode ≡ mode_after action enable (elapsed_of action log r.place).finished
     unfolding perform_of
     mode_then = ap (λ (t : SlotStep). t.slot.mode) performs
 
     -- and where it then goes on
-    pub going_then : mode_after action enable (elapsed_of action log r.place).finished ≡ Mode.Running → ((at next : ℕ) → ip_after action at next ≡ next)
-        → Going (p + n) (next (script_scene x enable log) r)
+    pub going_then : mode_after action enable (elapsed_of action log r.place).finished ≡ Mode.Running → ((at after_step : ℕ) → ip_after action at after_step ≡ after_step)
+        → Going (p + n) (after_step (script_scene x enable log) r)
     unfolding perform_of
     going_then runs moves = record {
       runs = mode_then ∙ runs;

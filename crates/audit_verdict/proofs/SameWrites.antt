@@ -24,8 +24,8 @@ use Rattle.audit_verdict.specs.Auditor.{loads_both, known_data, know_next}
 use Rattle.audit_verdict.specs.Demand3.{Orderly}
 use Rattle.audit_verdict.specs.declared.verdicts.Knowledge.{Knowledge}
 use Rattle.audit_verdict.proofs.Cases.{either}
-use Rattle.audit_verdict.proofs.Going.{scene_under, next, run_rests, performs, mode_then}
-use Rattle.audit_verdict.proofs.Walk.{Walk, here, more, actions_of}
+use Rattle.audit_verdict.proofs.Going.{scene_under, after_step, run_rests, performs, mode_then}
+use Rattle.audit_verdict.proofs.Walk.{Walk, here, further, actions_of}
 use Rattle.audit_verdict.proofs.Agreement.{Agree, goes_on, waits_then}
 use Rattle.audit_verdict.proofs.Soundness.{orderly_effect}
 use Rattle.audit_verdict.proofs.WitnessRun.{Unheld}
@@ -59,7 +59,7 @@ module _ (x : Script) (ranges : List ℕ) (log : Log) where
       → Agree x ranges addr word p k r → Agree x ranges addr' word' p k r'
       → Reads x p action n → Same k r r'
       → wrote_by (effect_of action true r.slot.addr.0 r.slot.«data») ≡ wrote_by (effect_of action true r'.slot.addr.0 r'.slot.«data»)
-      → Same (know_next action k) (next scene r) (next scene r')
+      → Same (know_next action k) (after_step scene r) (after_step scene r')
   unfolding perform_of
   next_same {k = k} {r = r} {r' = r'} {action = action} g g' e s h =
       rw (performs x true log g.going e, performs x true log g'.going e) (record {
@@ -79,12 +79,12 @@ module _ (x : Script) (ranges : List ℕ) (log : Log) where
   unfolding slot_run_for
   same_writes e w g g' s zero = s.writes
   same_writes {r = r} {r' = r'} e here g g' s (suc n) =
-      rest refl n (next scene r) (next scene r') (mode_then x true log g.going e) (mode_then x true log g'.going e) (next_same g g' e s refl).writes
-  same_writes {addr} {word} {addr'} {word'} {p} {r = r} {r' = r'} e (more action t f j w) g g' s (suc n) =
+      rest refl n (after_step scene r) (after_step scene r') (mode_then x true log g.going e) (mode_then x true log g'.going e) (next_same g g' e s refl).writes
+  same_writes {addr} {word} {addr'} {word'} {p} {r = r} {r' = r'} e (further action t f j w) g g' s (suc n) =
       let wrote = j.writes addr addr' r.slot.addr.0 r'.slot.addr.0 r.slot.«data» r'.slot.«data» g.held g'.held s.held in
       let same = next_same g g' f s wrote in
       ⊎_elim (λ d. same_writes {p = p + t} e w (goes_on log g f j d) (goes_on log g' f j (rw s.place at d)) same n)
-      (λ d. rest refl n (next scene r) (next scene r') (waits_then log g f j d) (waits_then log g' f j (rw s.place at d)) same.writes)
+      (λ d. rest refl n (after_step scene r) (after_step scene r') (waits_then log g f j d) (waits_then log g' f j (rw s.place at d)) same.writes)
       (either (elapsed_of action log r.place).finished)
 
   -- two runs through a walk that is held up nowhere
@@ -93,7 +93,7 @@ module _ (x : Script) (ranges : List ℕ) (log : Log) where
       → Same l (slot_run_for scene (length (actions_of w)) r) (slot_run_for scene (length (actions_of w)) r')
   unfolding slot_run_for
   same_through here g g' s u = s
-  same_through {addr} {word} {addr'} {word'} {r = r} {r' = r'} (more action t f j w) g g' s u =
+  same_through {addr} {word} {addr'} {word'} {r = r} {r' = r'} (further action t f j w) g g' s u =
       let wrote = j.writes addr addr' r.slot.addr.0 r'.slot.addr.0 r.slot.«data» r'.slot.«data» g.held g'.held s.held in
       same_through w (goes_on log g f j u.0) (goes_on log g' f j (rw s.place at u.0)) (next_same g g' f s wrote) u.1
 
@@ -103,6 +103,6 @@ module _ (x : Script) (ranges : List ℕ) (log : Log) where
       → Orderly (next_slot_step scene (slot_run_for scene n r)).effect
   unfolding slot_run_for perform_of
   orderly_through here g u n h = absurd (omega arith)
-  orderly_through {r = r} (more action t e f w) g u zero h =
+  orderly_through {r = r} (further action t e f w) g u zero h =
       rw (performs x true log g.going e) (orderly_effect action r.slot.addr.0 r.slot.«data»)
-  orderly_through (more action t e f w) g u (suc n) h = orderly_through w (goes_on log g e f u.0) u.1 n (omega arith)
+  orderly_through (further action t e f w) g u (suc n) h = orderly_through w (goes_on log g e f u.0) u.1 n (omega arith)

@@ -46,7 +46,7 @@ use Rattle.audit_verdict.specs.declared.verdicts.KnownAddress.{KnownAddress}
 use Rattle.audit_verdict.specs.declared.verdicts.Knowledge.{Knowledge}
 use Rattle.audit_verdict.specs.declared.verdicts.Verdict.{Verdict}
 use Rattle.audit_verdict.proofs.Cases.{never}
-use Rattle.audit_verdict.proofs.Going.{scene_under, next, Going, refuses, performs, mode_then}
+use Rattle.audit_verdict.proofs.Going.{scene_under, after_step, Going, refuses, performs, mode_then}
 use Rattle.audit_verdict.proofs.Judging.{held_addr, poke_addr, Blame}
 use Rattle.audit_verdict.proofs.Walk.{Walk, actions_of, walk_counts, walk_writes, Ends, at_refused, at_bad, at_exit}
 use Rattle.audit_verdict.proofs.Agreement.{Agree}
@@ -75,7 +75,7 @@ ewait_unfinished log event value rows (Released.End n) o c = (refl, refl, refl)
 
 -- so is a run at it, after its step
 pub stuck_there : {x : Script} {p t event value : ℕ} → Reads x p (Action.Ewait event value) t → can_release event value ≡ false
-    → (log : Log) {r : SlotRun} → Going p r → Stuck log (next (scene_under x log) r)
+    → (log : Log) {r : SlotRun} → Going p r → Stuck log (after_step (scene_under x log) r)
 unfolding perform_of
 stuck_there {x} {event = event} {value = value} e c log {r} g =
     let cut = ewait_unfinished log event value (length log.clocks) (ewait_of log r.place event value) (ewait_on_reading log event value r.place) c in
@@ -148,7 +148,7 @@ module _ {x : Script} {ranges : List ℕ} (fit : Auditable x) {q : ℕ} {k : Kno
     pokes part operand e = does (performs x true log agrees.going e)
 
     -- one step more
-    after : slot_run_of name (run_for name log (suc steps) (begun s)) ≡ next scene run_of_slot
+    after : slot_run_of name (run_for name log (suc steps) (begun s)) ≡ after_step scene run_of_slot
     after =
         slot_follows start fit.fits log (witness_valid w) (suc steps)
         ∙ slot_snoc scene steps (slot_begun (slot_of s name) s.flags)

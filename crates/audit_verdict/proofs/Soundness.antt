@@ -22,8 +22,8 @@ use Rattle.script.proofs.Scripts.{Reads}
 use Rattle.audit_verdict.specs.Demand3.{AllListed, Orderly}
 use Rattle.audit_verdict.specs.declared.verdicts.Knowledge.{Knowledge}
 use Rattle.audit_verdict.proofs.Cases.{either}
-use Rattle.audit_verdict.proofs.Going.{scene_under, next, run_rests, performs}
-use Rattle.audit_verdict.proofs.Walk.{Walk, here, more}
+use Rattle.audit_verdict.proofs.Going.{scene_under, after_step, run_rests, performs}
+use Rattle.audit_verdict.proofs.Walk.{Walk, here, further}
 use Rattle.audit_verdict.proofs.Agreement.{Agree, Held, goes_on, held_up}
 
 pub orderly_effect : (action : Action) (addr word : ℕ) → Orderly (effect_of action true addr word)
@@ -54,7 +54,7 @@ module _ (x : Script) (ranges : List ℕ) where
 
     module _ {q m : ℕ} {l : Knowledge} (e : Reads x q Action.Exit m) where
       -- exit's own step
-      pub exit_step : {addr word : ℕ} {r : SlotRun} → Agree x ranges addr word q l r → Exited q l (next (scene_under x log) r)
+      pub exit_step : {addr word : ℕ} {r : SlotRun} → Agree x ranges addr word q l r → Exited q l (after_step (scene_under x log) r)
       unfolding perform_of
       exit_step g = rw (performs x true log g.going e) (record {
         idle = refl;
@@ -66,15 +66,15 @@ module _ (x : Script) (ranges : List ℕ) where
         listed = rw append-nil g.listed;
       })
 
-      pub sound : valid_log log ≡ true → {addr word p : ℕ} {k : Knowledge} {r : SlotRun} → Walk x ranges p k q l → Agree x ranges addr word p k r
+      pub stays_sound : valid_log log ≡ true → {addr word p : ℕ} {k : Knowledge} {r : SlotRun} → Walk x ranges p k q l → Agree x ranges addr word p k r
           → valid_place log.clocks r.place ≡ true → (n low : ℕ) → low ≤ p + n → Stands q l low (slot_run_for (scene_under x log) n r)
       unfolding slot_run_for
-      sound valid here g v zero low h = goes e g (omega arith)
-      sound valid {r = r} here g v (suc n) low h =
+      stays_sound valid here g v zero low h = goes e g (omega arith)
+      stays_sound valid {r = r} here g v (suc n) low h =
           let s = exit_step g in
-          rw (run_rests (scene_under x log) (next (scene_under x log) r) (ap is_running s.idle) n) (exits s)
-      sound valid (more action t f j w) g v zero low h = goes f g (omega arith)
-      sound valid {r = r} (more action t f j w) g v (suc n) low h =
-          ⊎_elim (λ d. sound valid w (goes_on log g f j d) (next_place (scene_under x log) valid r v) n low (omega (arith, f.some)))
-          (λ d. let s = held_up log g f j v d in rw (run_rests (scene_under x log) (next (scene_under x log) r) (ap is_running s.waiting) n) (waits s))
+          rw (run_rests (scene_under x log) (after_step (scene_under x log) r) (ap is_running s.idle) n) (exits s)
+      stays_sound valid (further action t f j w) g v zero low h = goes f g (omega arith)
+      stays_sound valid {r = r} (further action t f j w) g v (suc n) low h =
+          ⊎_elim (λ d. stays_sound valid w (goes_on log g f j d) (next_place (scene_under x log) valid r v) n low (omega (arith, f.some)))
+          (λ d. let s = held_up log g f j v d in rw (run_rests (scene_under x log) (after_step (scene_under x log) r) (ap is_running s.waiting) n) (waits s))
           (either (elapsed_of action log r.place).finished)

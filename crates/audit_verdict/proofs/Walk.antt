@@ -29,7 +29,7 @@ module _ (x : Script) (ranges : List ℕ) where
   -- a straight run of actions judged fine
   pub data Walk : ℕ → Knowledge → ℕ → Knowledge → Type 0 where
     here : {p : ℕ} {k : Knowledge} → Walk p k p k
-    more : {p : ℕ} {k : Knowledge} {q : ℕ} {l : Knowledge} (action : Action) (n : ℕ)
+    further : {p : ℕ} {k : Knowledge} {q : ℕ} {l : Knowledge} (action : Action) (n : ℕ)
         → Reads x p action n → Fine x.family ranges action k → Walk (p + n) (know_next action k) q l → Walk p k q l
 
   -- how it ends
@@ -50,19 +50,19 @@ module _ (x : Script) (ranges : List ℕ) where
 module _ {x : Script} {ranges : List ℕ} where
   abbrev pub actions_of : {p : ℕ} {k : Knowledge} {q : ℕ} {l : Knowledge} → Walk x ranges p k q l → List Action
   actions_of here = []
-  actions_of (more action n e f w) = action ∷ actions_of w
+  actions_of (further action n e f w) = action ∷ actions_of w
 
   pub walk_forward : {p q : ℕ} {k l : Knowledge} → Walk x ranges p k q l → p ≤ q
   walk_forward here = omega arith
-  walk_forward (more action n e f w) = omega (arith, walk_forward w)
+  walk_forward (further action n e f w) = omega (arith, walk_forward w)
 
   pub walk_counts : {p q : ℕ} {k l : Knowledge} (w : Walk x ranges p k q l) → k.count + length (actions_of w) ≡ l.count
   walk_counts here = omega arith
-  walk_counts (more action n e f w) = omega (arith, walk_counts w)
+  walk_counts (further action n e f w) = omega (arith, walk_counts w)
 
   pub walk_writes : {p q : ℕ} {k l : Knowledge} (w : Walk x ranges p k q l) → k.writes + writes_over (actions_of w) ≡ l.writes
   walk_writes here = omega arith
-  walk_writes (more action n e f w) = omega (arith, walk_writes w)
+  walk_writes (further action n e f w) = omega (arith, walk_writes w)
 
   -- it is the script's way to where it ends
   pub way_is : {p q : ℕ} {k l : Knowledge} (left : ℕ) (w : Walk x ranges p k q l) → code_size x.family ≤ p + left
@@ -70,8 +70,8 @@ module _ {x : Script} {ranges : List ℕ} where
   unfolding actions_to
   way_is zero here h = refl
   way_is {p} (suc left) here h = rw (eq-eqb p p refl) refl
-  way_is zero (more action n e f w) h = absurd (omega (arith, e.some, e.inside))
-  way_is {p} {q} (suc left) (more action n e f w) h =
+  way_is zero (further action n e f w) h = absurd (omega (arith, e.some, e.inside))
+  way_is {p} {q} (suc left) (further action n e f w) h =
       let before : eqb p q ≡ false = ne_eqb p q (λ same. omega (arith, walk_forward w, e.some)) in
       rw (before, e.found, e.acts, actions_to) (ap (λ (later : List Action). action ∷ later) (way_is {p = p + n} left w (omega (arith, e.some))))
 
@@ -83,7 +83,7 @@ module _ (x : Script) (ranges : List ℕ) where
 
   on : {p : ℕ} {k : Knowledge} {v : Verdict} (action : Action) (n : ℕ) → Reads x p action n → Fine x.family ranges action k
       → WalkedTo (p + n) (know_next action k) v → WalkedTo p k v
-  on action n e f w = record { knows = w.knows; walk = more action n e f w.walk; ends = w.ends }
+  on action n e f w = record { knows = w.knows; walk = further action n e f w.walk; ends = w.ends }
 
   at_once : {p : ℕ} {k : Knowledge} {v : Verdict} → Ends x ranges p k v → WalkedTo p k v
   at_once {p} {k} (at_refused why e) = record { knows = k; walk = here; ends = at_refused why e }

@@ -25,7 +25,7 @@ use Rattle.audit_verdict.specs.Start.{MasksInType}
 use Rattle.audit_verdict.specs.Witness.{first_row, event_row, releases, row_after, rows_ended, rows_over, max_shown}
 use Rattle.audit_verdict.specs.declared.verdicts.Knowledge.{Knowledge}
 use Rattle.audit_verdict.proofs.Cases.{below_at}
-use Rattle.audit_verdict.proofs.Walk.{Walk, here, more, actions_of}
+use Rattle.audit_verdict.proofs.Walk.{Walk, here, further, actions_of}
 use Rattle.audit_verdict.proofs.WitnessRun.{witness_rows, witness_log}
 
 -- ---- waits are short
@@ -39,19 +39,19 @@ wait_short (Action.Poke part word) f = omega arith
 wait_short Action.Exit f = omega arith
 
 -- each action takes a byte at least, and waits no longer than a wait can
-pub record Bounded (p : ℕ) (k : Knowledge) : Type 0 where
+pub record StaysBelow (p : ℕ) (k : Knowledge) : Type 0 where
   pub count : k.count ≤ p
   pub clocks : k.clocks ≤ k.count * 103079215104
 
-pub bounded_next : {p n : ℕ} {k : Knowledge} (action : Action) → Formed action → 0 < n → Bounded p k → Bounded (p + n) (know_next action k)
+pub bounded_next : {p n : ℕ} {k : Knowledge} (action : Action) → Formed action → 0 < n → StaysBelow p k → StaysBelow (p + n) (know_next action k)
 bounded_next action f h b = let short = wait_short action f in record { count = omega (arith, b.count); clocks = omega (arith, b.clocks) }
 
-pub bounded : {x : Script} {ranges : List ℕ} {p q : ℕ} {k l : Knowledge} → Walk x ranges p k q l → Bounded p k → Bounded q l
+pub bounded : {x : Script} {ranges : List ℕ} {p q : ℕ} {k l : Knowledge} → Walk x ranges p k q l → StaysBelow p k → StaysBelow q l
 bounded here b = b
-bounded (more action n e f w) b = bounded w (bounded_next action e.formed e.some b)
+bounded (further action n e f w) b = bounded w (bounded_next action e.formed e.some b)
 
 -- the auditor begins so, at every entry
-pub bounded_start : {entry : ℕ} → Bounded entry know_nothing
+pub bounded_start : {entry : ℕ} → StaysBelow entry know_nothing
 bounded_start = record { count = omega arith; clocks = omega arith }
 
 -- ---- what holds of a row as it is made
@@ -117,8 +117,8 @@ mask_more mask rest h r (suc i) = r i
 abbrev longest : ℕ
 longest = 52776558133248
 
-one_more : {c : ℕ} (row : Row) (rows : List Row) → RowFits c row → c ≤ longest → InLog rows → InLog (row ∷ rows)
-one_more row rows m h r = record {
+rows_and_one : {c : ℕ} (row : Row) (rows : List Row) → RowFits c row → c ≤ longest → InLog rows → InLog (row ∷ rows)
+rows_and_one row rows m h r = record {
   range = rw (le-leb 1 row.clocks m.least, le-leb row.clocks (2 ^ 48) (omega (arith, m.most)), r.range) refl;
   masks = record {
     known_bits = mask_more row.known (row_known rows) m.known_bits r.masks.known_bits;
@@ -132,7 +132,7 @@ left_more (Action.Ewait event value) row later m h r = by (releases row event va
   where
     by : (b : Bool) → InLog (cond b [] (row ∷ []) ++ later)
     by true = r
-    by false = one_more row later m h r
+    by false = rows_and_one row later m h r
 left_more (Action.Flag change flag) row later m h r = r
 left_more (Action.Load part word) row later m h r = r
 left_more (Action.Poke part word) row later m h r = r
@@ -165,17 +165,17 @@ reads_size {x} {p} {n} e row =
 module _ {x : Script} {ranges : List ℕ} where
   rows_most : {p q : ℕ} {k l : Knowledge} (w : Walk x ranges p k q l) (row : Row) → 3 * length (rows_over (actions_of w) row) ≤ 3 + (code_size x.family - p)
   rows_most here row = omega arith
-  rows_most (more action n e f w) row =
+  rows_most (further action n e f w) row =
       let next = row_after action row in
       omega (arith, length-append (rows_ended action row) (rows_over (actions_of w) next), reads_size e row, rows_most w next, e.inside)
 
   pub witness_few : {p q : ℕ} {k l : Knowledge} (w : Walk x ranges p k q l) → length (witness_rows w) ≤ max_shown
   witness_few w = omega (arith, rows_most w first_row, size_small x.family)
 
-  in_log : {p q : ℕ} {k l : Knowledge} (w : Walk x ranges p k q l) (row : Row) → Bounded p k → k.clocks ≤ longest → RowFits k.clocks row
+  in_log : {p q : ℕ} {k l : Knowledge} (w : Walk x ranges p k q l) (row : Row) → StaysBelow p k → k.clocks ≤ longest → RowFits k.clocks row
       → InLog (rows_over (actions_of w) row)
-  in_log here row b h m = one_more row [] m h no_rows
-  in_log {k = k} (more action n e f w) row b h m =
+  in_log here row b h m = rows_and_one row [] m h no_rows
+  in_log {k = k} (further action n e f w) row b h m =
       let next = bounded_next action e.formed e.some b in
       left_more action row (rows_over (actions_of w) (row_after action row)) m h
       (in_log w (row_after action row) next (omega (arith, next.count, next.clocks, e.inside, size_small x.family))

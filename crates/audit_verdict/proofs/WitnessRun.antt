@@ -30,8 +30,8 @@ use Rattle.audit_verdict.specs.Auditor.{can_release, Releasable, know_nothing}
 use Rattle.audit_verdict.specs.Witness.{first_row, event_row, releases, row_after, rows_ended, rows_over}
 use Rattle.audit_verdict.specs.declared.verdicts.Knowledge.{Knowledge}
 use Rattle.audit_verdict.proofs.Cases.{never, below_at}
-use Rattle.audit_verdict.proofs.Going.{scene_under, next, performs}
-use Rattle.audit_verdict.proofs.Walk.{Walk, here, more, actions_of}
+use Rattle.audit_verdict.proofs.Going.{scene_under, after_step, performs}
+use Rattle.audit_verdict.proofs.Walk.{Walk, here, further, actions_of}
 use Rattle.audit_verdict.proofs.Agreement.{Agree, goes_on}
 
 -- the row that an ewait begins releases it: 64 tests that antt computes
@@ -122,8 +122,8 @@ module _ (log : List Row) where
       rw e (record { passed = refl; finished = refl; on = record { ahead = o.ahead; used = o.used } })
   ewait_finishes event value p row later r false t c o =
       let d = first_at p.row log row later o.ahead in
-      let next : p.row + 1 ≡ suc p.row = omega arith in
-      let d' = first_at (p.row + 1) log c.first c.rest (rw next d.rest ∙ c.is) in
+      let after_step : p.row + 1 ≡ suc p.row = omega arith in
+      let d' = first_at (p.row + 1) log c.first c.rest (rw after_step d.rest ∙ c.is) in
       let not_here : has_reading (get_or (row_known log) p.row 0) (get_or (row_values log) p.row 0) event value ≡ false = rw (d.knows, d.reads) t in
       let there : has_reading (get_or (row_known log) (p.row + 1) 0) (get_or (row_values log) (p.row + 1) 0) event value ≡ true
       = rw (d'.knows, d'.reads, c.knows, c.reads) (row_releases event value r) in
@@ -133,7 +133,7 @@ module _ (log : List Row) where
       ∙ in64_next (log_of_rows log) event value p.row p.used 0 d.inside not_here
       ∙ in64_here (log_of_rows log) event value (p.row + 1) 0 passed (omega arith) d'.inside there in
       let one : passed ≡ 1 = omega (arith, d.lasts, o.used) in
-      rw e (record { passed = one; finished = refl; on = record { ahead = rw next d.rest; used = refl } })
+      rw e (record { passed = one; finished = refl; on = record { ahead = rw after_step d.rest; used = refl } })
 
   -- any action judged fine
   finishes : (action : Action) (p : Place) (row : Row) (later : List Row) → Releasable action
@@ -178,7 +178,7 @@ pub record Arrived (x : Script) (ranges : List ℕ) (log : Log) (addr word q : �
 module _ {x : Script} {ranges : List ℕ} (log : Log) where
   abbrev pub Unheld : {p q : ℕ} {k l : Knowledge} → Walk x ranges p k q l → SlotRun → Type 0
   Unheld here r = Unit {0}
-  Unheld (more action n e f w) r = ((elapsed_of action log r.place).finished ≡ true) × Unheld w (next (scene_under x log) r)
+  Unheld (further action n e f w) r = ((elapsed_of action log r.place).finished ≡ true) × Unheld w (after_step (scene_under x log) r)
 
 module _ {x : Script} {ranges : List ℕ} (log : List Row) where
   reach_on : {addr word p q : ℕ} {k l : Knowledge} {r : SlotRun} (w : Walk x ranges p k q l) (row : Row) → Agree x ranges addr word p k r
@@ -187,7 +187,7 @@ module _ {x : Script} {ranges : List ℕ} (log : List Row) where
       (slot_run_for (scene_under x (log_of_rows log)) (length (actions_of w)) r))
   unfolding slot_run_for perform_of
   reach_on {r = r} here row g o = (tt, record { agrees = g; one_left = last_left log r.place row o; passes_by = omega arith })
-  reach_on {r = r} (more action n e f w) row g o =
+  reach_on {r = r} (further action n e f w) row g o =
       let later = row_after action row in
       let t = finishes log action r.place row (rows_over (actions_of w) later) f.event (continues (actions_of w) later) o in
       let does = performs x true (log_of_rows log) g.going e in

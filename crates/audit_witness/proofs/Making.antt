@@ -32,7 +32,7 @@ use Rattle.audit_verdict.specs.declared.verdicts.Knowledge.{Knowledge}
 use Rattle.audit_script.proofs.Walking.{poke_small}
 use Rattle.audit_verdict.proofs.Cases.{never}
 use Rattle.audit_verdict.proofs.Judging.{Fine}
-use Rattle.audit_verdict.proofs.Walk.{Walk, here, more, actions_of, walk_forward, way_is}
+use Rattle.audit_verdict.proofs.Walk.{Walk, here, further, actions_of, walk_forward, way_is}
 use Rattle.audit_verdict.proofs.Claim.{audit_walked}
 use Rattle.audit_verdict.proofs.WitnessLog.{Bounded, bounded_next, bounded_start, wait_short, RowFits, first_fits, row_fits_after, reads_size}
 use Rattle.audit_witness.specs.Witnesses.{way}
@@ -76,9 +76,9 @@ module _ (made : Timeline) (old : Log) {answer : Timeline} where
 
 module _ {x : Script} {ranges : List ℕ} where
   -- at the place nothing is left of it
-  over : {p q : ℕ} {k l : Knowledge} (w : Walk x ranges p k q l) → p ≡ q → actions_of w ≡ []
-  over here same = refl
-  over (more action n e f w) same = absurd (omega (arith, walk_forward w, e.some))
+  walked_over : {p q : ℕ} {k l : Knowledge} (w : Walk x ranges p k q l) → p ≡ q → actions_of w ≡ []
+  walked_over here same = refl
+  walked_over (further action n e f w) same = absurd (omega (arith, walk_forward w, e.some))
 
   -- before it there is an instruction, judged fine
   record Next {p q : ℕ} {k l : Knowledge} (w : Walk x ranges p k q l) (action : Action) (n : ℕ) : Type 0 where
@@ -90,7 +90,7 @@ module _ {x : Script} {ranges : List ℕ} where
   next_of : {p q : ℕ} {k l : Knowledge} (w : Walk x ranges p k q l) → (p ≡ q → ⊥) → (i : Instruction) (n : ℕ)
       → fetch_at x p ≡ Decoded.Instruction i n → Next w (action_of i) n
   next_of here apart i n f = absurd (apart refl)
-  next_of (more action m e g w) apart i n f =
+  next_of (further action m e g w) apart i n f =
       let which : i ≡ e.instruction = cc e.found in
       let size : n ≡ m = cc e.found in
       let acts : action_of i ≡ action = ap action_of which ∙ e.acts in
@@ -98,7 +98,7 @@ module _ {x : Script} {ranges : List ℕ} where
 
   pub never_refused : {p q : ℕ} {k l : Knowledge} (w : Walk x ranges p k q l) → (p ≡ q → ⊥) → (why : Unreadable) → fetch_at x p ≡ Decoded.Refused why → ⊥
   never_refused here apart why f = apart refl
-  never_refused (more action m e g w) apart why f = never (cc e.found)
+  never_refused (further action m e g w) apart why f = never (cc e.found)
 
 -- ---- the loop
 
@@ -173,7 +173,7 @@ module _ {x : Script} {ranges : List ℕ} {place : ℕ} {all : List Action} {len
   -- at the place the present row is the last
   last_put : at ≡ place → {new : Log} → new ≡ with_row log made.before made.row → Follows all lent new made
   last_put same {new} p =
-      let none_left = over g.walk same in
+      let none_left = walked_over g.walk same in
       let rows_are : g.before ++ (made.row ∷ []) ≡ rows_over all first_row
       = ap (λ (actions : List Action). g.before ++ rows_over actions made.row) (sym none_left) ∙ g.same_rows in
       record {

@@ -5,7 +5,7 @@ use Rattle.event_log.specs.Log.{Log}
 use Rattle.event_log.specs.declared.place.Place.{Place}
 use Rattle.machine_state.specs.declared.slots.SlotName.{SlotName}
 use Rattle.machine_state.specs.declared.state.State.{State}
-use Rattle.machine_step.specs.Promises.{Steps}
+use Rattle.machine_step.specs.Promises.{StepsOnce}
 use Rattle.machine_step.specs.declared.steps.Stepped.{Stepped}
 use Rattle.capi_state.specs.Images.{image_state}
 use Rattle.capi_state.specs.declared.images.StateImage.{StateImage}
@@ -20,12 +20,12 @@ step_back answer told = ap (λ (r : StepReply). image_state r.state) told ∙ im
 -- the call is of the state that the image stands for
 module _ {image : StateImage} {s : State} (e : s ≡ image_state image) where
   pub step_passed : {slot : ℕ} {name : SlotName} {log : Log} {row used : ℕ} {answer : Stepped} {reply : StepReply} → name ≡ slot_numbered slot
-      → Steps s name log (record { row = row; used = used }) answer → reply ≡ step_reply answer → HwsqStep image slot log row used reply
+      → StepsOnce s name log (record { row = row; used = used }) answer → reply ≡ step_reply answer → HwsqStep image slot log row used reply
   step_passed {slot} {name} {log} {row} {used} {answer} n p told =
       let place : Place = record { row = row; used = used } in
-      let q : Steps (image_state image) (slot_numbered slot) log place answer = rw (e, n) at p in
+      let q : StepsOnce (image_state image) (slot_numbered slot) log place answer = rw (e, n) at p in
       record {
         answered = told ∙ ap step_reply q.answered;
-        steps = subst (Steps (image_state image) (slot_numbered slot) log place) q.answered q;
+        steps = subst (StepsOnce (image_state image) (slot_numbered slot) log place) q.answered q;
         handed_on = step_back answer told ∙ ap (λ (a : Stepped). a.state) q.answered;
       }

@@ -5,7 +5,7 @@ use Rattle.event_log.specs.Log.{Log}
 use Rattle.machine_state.specs.declared.slots.SlotName.{SlotName}
 use Rattle.machine_slot.specs.declared.slot_steps.Effect.{Effect}
 use Rattle.machine_step.specs.Step.{step_of}
-use Rattle.machine_step.specs.Promises.{Steps}
+use Rattle.machine_step.specs.Promises.{StepsOnce}
 use Rattle.machine_step.specs.declared.steps.Stepped.{Stepped}
 use Rattle.capi_state.specs.Images.{image_state, state_image}
 use Rattle.capi_state.specs.declared.images.StateImage.{StateImage}
@@ -47,5 +47,5 @@ module _ (image : StateImage) (slot : ℕ) (log : Log) (row used : ℕ) where
 
   pub record HwsqStep (reply : StepReply) : Type 0 where
     pub answered : reply ≡ step_reply step_answer
-    pub steps : Steps (image_state image) (slot_numbered slot) log (record { row = row; used = used }) step_answer
+    pub steps : StepsOnce (image_state image) (slot_numbered slot) log (record { row = row; used = used }) step_answer
     pub handed_on : image_state reply.state ≡ step_answer.state

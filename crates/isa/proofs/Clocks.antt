@@ -11,8 +11,8 @@ use Rattle.isa.proofs.Writing.{wait_fits_lem}
 
 module _ (length shift : ℕ) (fits : wait_fits length shift ≡ true) where
   -- the shift loses no bit of 64
-  pub exact : (length * 2 ^ (2 * shift)) % 18446744073709551616 ≡ length * 2 ^ (2 * shift)
-  exact = let h = wait_fits_lem length shift fits in shl_exact {a = length} 2 (2 * shift) 64 (omega arith) (omega arith)
+  pub clocks_exact : (length * 2 ^ (2 * shift)) % 18446744073709551616 ≡ length * 2 ^ (2 * shift)
+  clocks_exact = let h = wait_fits_lem length shift fits in shl_exact {a = length} 2 (2 * shift) 64 (omega arith) (omega arith)
 
   -- length is at most 3 and shift at most 15
   pub most : length * 2 ^ (2 * shift) ≤ 3221225472

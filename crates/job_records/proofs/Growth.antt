@@ -60,9 +60,9 @@ module _ (kind : ℕ) (counts : Counts) (room : HasRoom kind counts) where
   row_room e = room_at 1 e
 
 -- one more of its own kind, and of no other
-one_more : (wanted kind n : ℕ) → kind ≡ wanted → one_more_of wanted kind n ≡ suc n
+one_more_is : (wanted kind n : ℕ) → kind ≡ wanted → one_more_of wanted kind n ≡ suc n
 unfolding one_more_of
-one_more wanted kind n is = rw (eq-eqb kind wanted is) (add-one n)
+one_more_is wanted kind n is = rw (eq-eqb kind wanted is) (add-one n)
 
 none_more : (wanted kind n : ℕ) → (kind ≡ wanted → ⊥) → one_more_of wanted kind n ≡ n
 unfolding one_more_of
@@ -120,7 +120,7 @@ module _ (kind : ℕ) (rest : List ℕ) (j : Job) (size : Sizes j) (room : HasRo
       by : (is : Bool) → eqb kind 1 ≡ is → rows_in_range (take (one_more_of 1 kind n) (column_after kind n (long_at rest 1) j.clocks)) ≡ true
       by true e =
           let is = eqb-true kind 1 e in
-          rw (e, one_more 1 kind n is, take-suc-set j.clocks n (long_at rest 1) (omega (arith, size.clocks, row_room kind j.counts room is)))
+          rw (e, one_more_is 1 kind n is, take-suc-set j.clocks n (long_at rest 1) (omega (arith, size.clocks, row_room kind j.counts room is)))
           (row_more (clocks_of j) (long_at rest 1) h (good_row kind (long_at rest 1) is good))
       by false e = rw (e, none_more 1 kind n (eqb-false kind 1 e)) h
 
@@ -151,7 +151,7 @@ module _ (kind : ℕ) (rest : List ℕ) (j : Job) (size : Sizes j) (room : HasRo
       by : (is : Bool) → eqb kind 3 ≡ is → ranges_paired (take (2 * one_more_of 3 kind n) (bounds_after kind rest n j.bounds)) ≡ true
       by true e =
           let is = eqb-true kind 3 e in
-          let two : 2 * one_more_of 3 kind n ≡ suc (suc (2 * n)) = omega (arith, one_more 3 kind n is) in
+          let two : 2 * one_more_of 3 kind n ≡ suc (suc (2 * n)) = omega (arith, one_more_is 3 kind n is) in
           let fits : suc (2 * n) < length j.bounds = omega (arith, size.bounds, range_room kind j.counts room is) in
           rw (e, two, add-one (2 * n), two_more j.bounds (2 * n) (word_at rest 1) (word_at rest 5) fits)
           (pair_more (ranges_of j) (word_at rest 1) (word_at rest 5) h (good_range kind (word_at rest 1) (word_at rest 5) is good))

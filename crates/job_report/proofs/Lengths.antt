@@ -24,7 +24,7 @@ use Rattle.probe_captures.specs.declared.extents.Extent.{Extent}
 use Rattle.probe_floats.specs.Pattern.{pattern_of}
 use Rattle.job_text.proofs.DecimalLaws.{within, short}
 use Rattle.job_text.proofs.HexLaws.{eight}
-use Rattle.job_text.specs.Digits.{decimal, hex_word}
+use Rattle.job_text.specs.Digits.{decimal_text, hex_word}
 use Rattle.job_report.specs.Lines.{named, hex_named, refused_line, family_line, fault_line, pass_line}
 use Rattle.job_report.specs.Lines.{write_line, write_lines, row_line, row_lines, event_line, gated_line, event_lines, ending_text, end_line, status_line}
 use Rattle.job_report.specs.Words.{none_text}
@@ -37,14 +37,14 @@ use Rattle.job_report.specs.JobScript.{verdict_of, job_run, status_of}
 use Rattle.job_report.proofs.ScriptLaws.{writes_few}
 
 named_short : (text : List ℕ) (n : ℕ) → length (named text n) ≤ length text + 20
-named_short text n = omega (arith, length-append text (decimal n), short n)
+named_short text n = omega (arith, length-append text (decimal_text n), short n)
 
 hex_long : (text : List ℕ) (n : ℕ) → length (hex_named text n) ≡ length text + 8
 hex_long text n = omega (arith, length-append text (hex_word n), eight n)
 
 -- a number below 100 has two digits at most
 small_short : (text : List ℕ) (n : ℕ) → n ≤ 32 → length (named text n) ≤ length text + 2
-small_short text n h = omega (arith, length-append text (decimal n), within n 2 (omega arith) (omega arith))
+small_short text n h = omega (arith, length-append text (decimal_text n), within n 2 (omega arith) (omega arith))
 
 pub refused_length : (number offset : ℕ) → length (refused_line number offset) ≤ 53
 unfolding refused_line

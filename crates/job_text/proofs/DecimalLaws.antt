@@ -9,7 +9,7 @@ use lib.ListN.{length, drop, set, length-append}
 use lib.Dec.{ltb, lit<}
 use borrow.Author.Tests.{lt-ltb, le-ltb, ltb-true, ltb-false}
 use Rattle.job_text.proofs.Backwards.{less, stored}
-use Rattle.job_text.specs.Digits.{digit, decimal_in, decimal, read_on, DecimalText}
+use Rattle.job_text.specs.Digits.{digit, decimal_in, decimal_text, read_on, DecimalText}
 
 last_digit : (most n : ℕ) → n < 10 → decimal_in (suc most) n ≡ digit n ∷ []
 unfolding decimal_in
@@ -77,8 +77,8 @@ within_in (suc most) n (suc (suc k)) p h =
     digits_elim (λ (l : List ℕ). length l ≤ suc (suc k)) most n (λ _. omega arith)
     (λ _. simp length-append (omega (arith, within_in most (n / 10) (suc k) (omega arith) (tenth (suc k) n h))))
 
-pub within : (n places : ℕ) → 0 < places → n < 10 ^ places → length (decimal n) ≤ places
-unfolding decimal
+pub within : (n places : ℕ) → 0 < places → n < 10 ^ places → length (decimal_text n) ≤ places
+unfolding decimal_text
 within n places p h = within_in 20 n places p h
 
 short_in : (most n : ℕ) → length (decimal_in most n) ≤ most
@@ -88,8 +88,8 @@ short_in (suc most) n =
     digits_elim (λ (l : List ℕ). length l ≤ suc most) most n (λ _. omega arith)
     (λ _. simp length-append (omega (arith, short_in most (n / 10))))
 
-pub short : (n : ℕ) → length (decimal n) ≤ 20
-unfolding decimal
+pub short : (n : ℕ) → length (decimal_text n) ≤ 20
+unfolding decimal_text
 short n = short_in 20 n
 
 -- ---- what they are read as
@@ -106,5 +106,5 @@ reads_back_in (suc most) n h =
     (λ _. read_end 0 (decimal_in most (n / 10)) (digit (n % 10)) ∙ omega (arith, reads_back_in most (n / 10) (tenth most n h)))
 
 pub digits_of : (n : ℕ) → DecimalText n
-unfolding decimal
+unfolding decimal_text
 digits_of n = record { reads_back = reads_back_in 20 n; within = within n; short = short n }

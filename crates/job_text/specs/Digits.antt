@@ -14,8 +14,8 @@ decimal_in (suc most) n =
     cond (ltb n 10) (digit n ∷ []) (front ++ (digit (n % 10) ∷ []))
 
 -- the decimal digits of n with no leading zero; a number of 64 bits has at most 20
-unfoldable pub decimal : ℕ → List ℕ
-decimal n = decimal_in 20 n
+unfoldable pub decimal_text : ℕ → List ℕ
+decimal_text n = decimal_in 20 n
 
 -- the last hex digit of n, lower case
 abbrev pub hex_digit : ℕ → ℕ
@@ -48,7 +48,7 @@ read_hex_on before (c ∷ cs) = read_hex_on (16 * before + hex_value c) cs
 
 pub record DecimalText (n : ℕ) : Type 0 where
   -- read back, the digits give the number
-  pub reads_back : n < 10 ^ 20 → read_on 0 (decimal n) ≡ n
+  pub reads_back : n < 10 ^ 20 → read_on 0 (decimal_text n) ≡ n
   -- and there are no more of them than it takes
-  pub within : (places : ℕ) → 0 < places → n < 10 ^ places → length (decimal n) ≤ places
-  pub short : length (decimal n) ≤ 20
+  pub within : (places : ℕ) → 0 < places → n < 10 ^ places → length (decimal_text n) ≤ places
+  pub short : length (decimal_text n) ≤ 20

@@ -1,6 +1,6 @@
 -- A text put into a lent buffer.
 use Rattle.std.specs.Prelude.{ℕ, ◌+◌, ◌^◌, ◌≤◌, ◌<◌, ◌≡◌, Bool, cond, List, ◌++◌, length, take, drop, leb}
-use Rattle.job_text.specs.Digits.{decimal, hex_word, read_hex_on, DecimalText}
+use Rattle.job_text.specs.Digits.{decimal_text, hex_word, read_hex_on, DecimalText}
 
 -- whether text t has room in buffer d from `at` on
 abbrev pub has_room : List ℕ → ℕ → List ℕ → Bool
@@ -31,7 +31,7 @@ pub record Puts (d : List ℕ) (at : ℕ) (t : List ℕ) (r : ℕ) (e : List ℕ
   pub size : length e ≡ 65536
 
 pub record PutsDecimal (d : List ℕ) (at n r : ℕ) (e : List ℕ) : Type 0 where
-  pub puts : Puts d at (decimal n) r e
+  pub puts : Puts d at (decimal_text n) r e
   pub digits : DecimalText n
 
 pub record PutsHex (d : List ℕ) (at n r : ℕ) (e : List ℕ) : Type 0 where

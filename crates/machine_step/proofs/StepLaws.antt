@@ -17,7 +17,7 @@ use Rattle.event_log.specs.declared.place.Place.{Place}
 use Rattle.machine_state.specs.Slot.{has_slot, is_running, slot_of}
 use Rattle.machine_step.specs.Step.{unmoved, after_slot_step, advance_of, step_of}
 use Rattle.machine_slot.specs.SlotStep.{unfetched_at, unfetched, slot_step_of}
-use Rattle.machine_step.specs.Promises.{Keeps, Passes, Steps, effect_number, step_refusal}
+use Rattle.machine_step.specs.Promises.{Keeps, Passes, StepsOnce, effect_number, step_refusal}
 use Rattle.machine_flags.specs.declared.flags.Flags.{Flags}
 use Rattle.machine_state.specs.declared.slots.SlotName.{SlotName}
 use Rattle.machine_state.specs.declared.slots.Slot.{Slot}
@@ -136,7 +136,7 @@ module _ (s : State) (name : SlotName) (log : Log) (p : Place) where
       P : Stepped → Type 0
       P t = effect_number t.effect ≡ step_refusal s.family log p
 
-  pub steps : {t : Stepped} → t ≡ step_of s name log p → Steps s name log p t
+  pub steps : {t : Stepped} → t ≡ step_of s name log p → StepsOnce s name log p t
   steps e =
       let law = subst Law (sym e) step_law in
       record {

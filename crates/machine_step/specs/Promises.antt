@@ -45,7 +45,7 @@ unfoldable pub step_refusal : ℕ → Log → Place → ℕ
 step_refusal family log p =
     cond (not (known_family family)) 9 (cond (not (valid_log log && valid_place log.clocks p)) 15 0)
 
-pub record Steps (s : State) (name : SlotName) (log : Log) (p : Place) (answer : Stepped) : Type 0 where
+pub record StepsOnce (s : State) (name : SlotName) (log : Log) (p : Place) (answer : Stepped) : Type 0 where
   pub answered : answer ≡ step_of s name log p
   pub numbered : effect_number answer.effect ≡ step_refusal s.family log p
   pub keeps : Keeps name s answer.state

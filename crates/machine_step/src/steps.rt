@@ -5,7 +5,7 @@ ghost use Rattle.machine_step.specs.Step.{after_slot_step, advance_of};
 ghost use Rattle.machine_step.specs.Step.{unmoved as Step·unmoved};
 ghost use Rattle.event_log.specs.Log.{log_of};
 ghost use Rattle.event_log.specs.Validity.{valid_log, valid_place};
-ghost use Rattle.machine_step.specs.Promises.{Steps};
+ghost use Rattle.machine_step.specs.Promises.{StepsOnce};
 
 use event_log::Place;
 use isa::{CodeAddress, Decoded};
@@ -34,7 +34,7 @@ pub fn step<'a>(
     values: &'a [u32],
     at: Place,
 ) -> Stepped
-    ensures { Steps state name (log_of clocks.now known.now values.now) at result }
+    ensures { StepsOnce state name (log_of clocks.now known.now values.now) at result }
 {
     if !families::known_family(state.family) {
         return unmoved(state, at, Effect::Refused(Unsteppable::Family));

@@ -91,13 +91,13 @@ module _ (name : SlotName) (s : State) where
     waits_too r free m = free (ap (λ (slot : Slot). slot.mode) (slot_back name s r.slot r.flags) ∙ m)
 
     module _ (log more : Log) (valid : valid_log log ≡ true) (valid' : valid_log (with_rows log more) ≡ true) (n : ℕ) where
-      beside : RunsBeside (scene_of s log) (with_rows log more) (SamePlace log) (slot_run log n) (slot_run (with_rows log more) n)
-      beside = added_beside (scene_of s log) (slot_of s name) s.flags valid n more valid'
+      lies_beside : RunsBeside (scene_of s log) (with_rows log more) (SamePlace log) (slot_run log n) (slot_run (with_rows log more) n)
+      lies_beside = added_beside (scene_of s log) (slot_of s name) s.flags valid n more valid'
 
       added_in : AddsOnly name (in_state s name (slot_run log n)) (in_state s name (slot_run (with_rows log more) n))
       added_in = record {
-        keeps_writes = kept_writes (scene_of s log) (with_rows log more) (SamePlace log) (slot_run log n) (slot_run (with_rows log more) n) beside;
-        same = λ free. by (slot_run log n) (slot_run (with_rows log more) n) beside free
+        keeps_writes = kept_writes (scene_of s log) (with_rows log more) (SamePlace log) (slot_run log n) (slot_run (with_rows log more) n) lies_beside;
+        same = λ free. by (slot_run log n) (slot_run (with_rows log more) n) lies_beside free
             (slot_clocks (scene_of s log) valid (slot_of s name) s.flags n)
             (slot_clocks (scene_of s (with_rows log more)) valid' (slot_of s name) s.flags n);
       }
@@ -114,10 +114,10 @@ module _ (name : SlotName) (s : State) where
     module _ (log log' : Log) (valid : valid_log log ≡ true) (valid' : valid_log log' ≡ true) (filled : FilledIn log log') (n : ℕ) where
       filled_in : KeepsUp name log.clocks (in_state s name (slot_run log n)) (in_state s name (slot_run log' n))
       filled_in =
-          let beside = filled_beside (scene_of s log) (slot_of s name) s.flags valid n log' valid' filled in
+          let lies_beside = filled_beside (scene_of s log) (slot_of s name) s.flags valid n log' valid' filled in
           record {
-            keeps_writes = kept_writes (scene_of s log) log' (NoLess log.clocks) (slot_run log n) (slot_run log' n) beside;
-            no_later = λ free. by (slot_run log n) (slot_run log' n) beside free
+            keeps_writes = kept_writes (scene_of s log) log' (NoLess log.clocks) (slot_run log n) (slot_run log' n) lies_beside;
+            no_later = λ free. by (slot_run log n) (slot_run log' n) lies_beside free
                 (slot_clocks (scene_of s log) valid (slot_of s name) s.flags n)
                 (subst (λ (clocks : List ℕ). Clocked clocks (slot_run log' n)) filled.clocks
                 (slot_clocks (scene_of s log') valid' (slot_of s name) s.flags n));

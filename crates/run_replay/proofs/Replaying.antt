@@ -76,81 +76,81 @@ progress_took : (r : SlotRun) (t : SlotStep) → progress_of (took_slot_step r t
 progress_took r t = rw length-append refl
 
 module _ (x : Scene) (slot : Slot) (flags : Flags) where
-  abbrev pub run : ℕ → SlotRun
-  run n = slot_run_for x n (slot_begun slot flags)
+  abbrev pub run_to : ℕ → SlotRun
+  run_to n = slot_run_for x n (slot_begun slot flags)
 
   -- the step that a progress asks for
   abbrev pub slot_step_on : Progress → SlotStep
   slot_step_on p = slot_step_of x.family x.enable p.slot p.flags x.log p.place (fetch_of x.family x.code x.marks p.slot.ip.0)
 
-  run_next : (n : ℕ) → is_running (run n).slot.mode ≡ true → run (suc n) ≡ took_slot_step (run n) (slot_step_from x (run n))
-  run_next n m = slot_snoc x n (slot_begun slot flags) ∙ ap (took_slot_step (run n)) (let e : next_slot_step x (run n) ≡ slot_step_from x (run n) = rw m refl in e)
+  run_next : (n : ℕ) → is_running (run_to n).slot.mode ≡ true → run_to (suc n) ≡ took_slot_step (run_to n) (slot_step_from x (run_to n))
+  run_next n m = slot_snoc x n (slot_begun slot flags) ∙ ap (took_slot_step (run_to n)) (let e : next_slot_step x (run_to n) ≡ slot_step_from x (run_to n) = rw m refl in e)
 
   -- a run that has settled has come to its end
-  run_settled : (n : ℕ) → Settled x (run n) → n ≤ full_steps x.family → run n ≡ full_slot_run x slot flags
+  run_settled : (n : ℕ) → Settled x (run_to n) → n ≤ full_steps x.family → run_to n ≡ full_slot_run x slot flags
   run_settled n z h =
       let left = full_steps x.family - n in
       let all : n + left ≡ full_steps x.family = omega arith in
-      sym (settled_more x n left (slot_begun slot flags) z) ∙ ap run all
+      sym (settled_more x n left (slot_begun slot flags) z) ∙ ap run_to all
 
   -- so has a slot that does not run
-  pub run_rests : (n : ℕ) → is_running (run n).slot.mode ≡ false → n ≤ full_steps x.family → run n ≡ full_slot_run x slot flags
-  run_rests n m = run_settled n (rest_settled x (run n) m)
+  pub run_rests : (n : ℕ) → is_running (run_to n).slot.mode ≡ false → n ≤ full_steps x.family → run_to n ≡ full_slot_run x slot flags
+  run_rests n m = run_settled n (rest_settled x (run_to n) m)
 
-  count_small : (n : ℕ) → (run n).count ≤ n
+  count_small : (n : ℕ) → (run_to n).count ≤ n
   unfolding slot_run_for
   count_small zero = omega arith
   count_small (suc n) =
       let e = ap (λ (r : SlotRun). r.count) (slot_snoc x n (slot_begun slot flags)) in
-      omega (arith, e, count_small n, fetched_small (next_slot_step x (run n)).effect)
+      omega (arith, e, count_small n, fetched_small (next_slot_step x (run_to n)).effect)
 
   module _ (low : slot.ip.0 ≤ 512) (valid : valid_log x.log ≡ true) where
-    steps_small : (n : ℕ) → n ≤ 513 → (run n).count < 1024
+    steps_small : (n : ℕ) → n ≤ 513 → (run_to n).count < 1024
     steps_small n h = omega (arith, count_small n)
 
-    pub writes_small : (n : ℕ) → 2 * length (run n).writes ≤ 340
+    pub writes_small : (n : ℕ) → 2 * length (run_to n).writes ≤ 340
     writes_small n = omega (arith, slot_room x slot flags low n)
 
-    sums_small : (n : ℕ) → ((run n).waits < 2 ^ 64) × ((run n).ewaits < 2 ^ 64)
+    sums_small : (n : ℕ) → ((run_to n).waits < 2 ^ 64) × ((run_to n).ewaits < 2 ^ 64)
     sums_small n =
         let c = slot_clocks x valid slot flags n in
         let m = left_most x.log valid log_start in
         (omega arith, omega arith)
 
     -- one step of the loop, which holds the run's progress
-    module _ (n : ℕ) (p : Progress) (is : p ≡ progress_of (run n)) (runs_on : is_running p.slot.mode ≡ true) (t : SlotStep) (taken : t ≡ slot_step_on p) where
-      running : is_running (run n).slot.mode ≡ true
+    module _ (n : ℕ) (p : Progress) (is : p ≡ progress_of (run_to n)) (runs_on : is_running p.slot.mode ≡ true) (t : SlotStep) (taken : t ≡ slot_step_on p) where
+      running : is_running (run_to n).slot.mode ≡ true
       running = rw is at runs_on
 
-      taken_is : t ≡ slot_step_from x (run n)
+      taken_is : t ≡ slot_step_from x (run_to n)
       taken_is = taken ∙ ap slot_step_on is
 
       -- one that fetched nothing was stopped, and so is every later one
-      pub run_stopped : fetched_by t.effect ≡ 0 → n ≤ full_steps x.family → run n ≡ full_slot_run x slot flags
+      pub run_stopped : fetched_by t.effect ≡ 0 → n ≤ full_steps x.family → run_to n ≡ full_slot_run x slot flags
       run_stopped none =
-          let next : next_slot_step x (run n) ≡ t = (let e : next_slot_step x (run n) ≡ slot_step_from x (run n) = rw running refl in e) ∙ sym taken_is in
+          let next : next_slot_step x (run_to n) ≡ t = (let e : next_slot_step x (run_to n) ≡ slot_step_from x (run_to n) = rw running refl in e) ∙ sym taken_is in
           run_settled n (ap (λ (u : SlotStep). fetched_by u.effect) next ∙ none)
 
-      pub progress_after_lem : progress_after p t ≡ progress_of (run (suc n))
-      progress_after_lem = rw (taken_is, is) (sym (progress_took (run n) (slot_step_from x (run n))) ∙ sym (ap progress_of (run_next n running)))
+      pub progress_after_lem : progress_after p t ≡ progress_of (run_to (suc n))
+      progress_after_lem = rw (taken_is, is) (sym (progress_took (run_to n) (slot_step_from x (run_to n))) ∙ sym (ap progress_of (run_next n running)))
 
-      writes_counted : p.writes ≡ length (run n).writes
+      writes_counted : p.writes ≡ length (run_to n).writes
       writes_counted = ap (λ (q : Progress). q.writes) is
 
-      writes_are : (run (suc n)).writes ≡ (run n).writes ++ wrote_by t.effect
-      writes_are = ap (λ (r : SlotRun). r.writes) (run_next n running) ∙ ap (λ (u : SlotStep). (run n).writes ++ wrote_by u.effect) (sym taken_is)
+      writes_are : (run_to (suc n)).writes ≡ (run_to n).writes ++ wrote_by t.effect
+      writes_are = ap (λ (r : SlotRun). r.writes) (run_next n running) ∙ ap (λ (u : SlotStep). (run_to n).writes ++ wrote_by u.effect) (sym taken_is)
 
-      module _ (lent now : List ℕ) (enough : 340 ≤ length lent) (held : now ≡ written_into lent (run n).writes) where
+      module _ (lent now : List ℕ) (enough : 340 ≤ length lent) (held : now ≡ written_into lent (run_to n).writes) where
         sized : length now ≡ length lent
-        sized = ap length held ∙ written_length lent (run n).writes (omega (arith, writes_small n))
+        sized = ap length held ∙ written_length lent (run_to n).writes (omega (arith, writes_small n))
 
         pub store_room : 2 * p.writes + 2 * length (wrote_by t.effect) ≤ length now
-        store_room = omega (arith, writes_counted, sized, writes_small (suc n), ap length writes_are, length-append (run n).writes (wrote_by t.effect))
+        store_room = omega (arith, writes_counted, sized, writes_small (suc n), ap length writes_are, length-append (run_to n).writes (wrote_by t.effect))
 
-        pub store_is : sets now (2 * p.writes) (entries_of (wrote_by t.effect)) ≡ written_into lent (run (suc n)).writes
+        pub store_is : sets now (2 * p.writes) (entries_of (wrote_by t.effect)) ≡ written_into lent (run_to (suc n)).writes
         store_is =
             rw (held, writes_counted)
-            (written_more lent (run n).writes (wrote_by t.effect) (omega (arith, writes_small (suc n), ap length writes_are))
+            (written_more lent (run_to n).writes (wrote_by t.effect) (omega (arith, writes_small (suc n), ap length writes_are))
             ∙ ap (written_into lent) (sym writes_are))
 
       pub slot_step_fits : n ≤ 512 → (p.steps < 1024) × (p.writes < 1024) × (p.waited + t.waited < 2 ^ 64) × (p.searched + t.searched < 2 ^ 64)

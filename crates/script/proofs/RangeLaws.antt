@@ -14,17 +14,17 @@ use Rattle.families.specs.Family.{within}
 use Rattle.families.proofs.Tests.{cond_elim, both_left, both_right}
 use Rattle.script.specs.Input.{listed_in, ranges_paired, marks_plain, max_ranges, ranges_fit}
 
-pub next : (l : List ℕ) (i : ℕ) → i < length l → drop i l ≡ get_or l i 0 ∷ drop (i + 1) l
-next l i h = rw add-one (drop-cons l i 0 h)
+pub drop_next : (l : List ℕ) (i : ℕ) → i < length l → drop i l ≡ get_or l i 0 ∷ drop (i + 1) l
+drop_next l i h = rw add-one (drop-cons l i 0 h)
 
 module _ (ranges : List ℕ) (i : ℕ) where
-  pub pair : i + 1 < length ranges → drop i ranges ≡ get_or ranges i 0 ∷ get_or ranges (i + 1) 0 ∷ drop (i + 2) ranges
-  pair h =
+  pub drop_pair : i + 1 < length ranges → drop i ranges ≡ get_or ranges i 0 ∷ get_or ranges (i + 1) 0 ∷ drop (i + 2) ranges
+  drop_pair h =
       let z : i + 1 + 1 ≡ i + 2 = omega arith in
-      next ranges i (omega arith) ∙ ap (λ (l : List ℕ). get_or ranges i 0 ∷ l) (next ranges (i + 1) h ∙ ap (λ (n : ℕ). get_or ranges (i + 1) 0 ∷ drop n ranges) z)
+      drop_next ranges i (omega arith) ∙ ap (λ (l : List ℕ). get_or ranges i 0 ∷ l) (drop_next ranges (i + 1) h ∙ ap (λ (n : ℕ). get_or ranges (i + 1) 0 ∷ drop n ranges) z)
 
   alone : i < length ranges → length ranges - i < 2 → drop i ranges ≡ get_or ranges i 0 ∷ []
-  alone h l = next ranges i h ∙ ap (λ (r : List ℕ). get_or ranges i 0 ∷ r) (drop_of_length-le ranges (let g : length ranges ≤ i + 1 = omega arith in g))
+  alone h l = drop_next ranges i h ∙ ap (λ (r : List ℕ). get_or ranges i 0 ∷ r) (drop_of_length-le ranges (let g : length ranges ≤ i + 1 = omega arith in g))
 
   module _ (address : ℕ) where
     pub listed_end : length ranges ≤ i → false ≡ listed_in (drop i ranges) address
@@ -34,11 +34,11 @@ module _ (ranges : List ℕ) (i : ℕ) where
     listed_alone h l = rw (alone h l)
 
     pub listed_here : i + 1 < length ranges → within (get_or ranges i 0) address (get_or ranges (i + 1) 0) ≡ true → true ≡ listed_in (drop i ranges) address
-    listed_here h t = rw (pair h, t)
+    listed_here h t = rw (drop_pair h, t)
 
     pub listed_next : i + 1 < length ranges → within (get_or ranges i 0) address (get_or ranges (i + 1) 0) ≡ false
         → listed_in (drop (i + 2) ranges) address ≡ listed_in (drop i ranges) address
-    listed_next h t = rw (pair h, t)
+    listed_next h t = rw (drop_pair h, t)
 
   -- whether all are in order: none so far is crossed, and the rest are
   module _ (crossed : Bool) where
@@ -48,7 +48,7 @@ module _ (ranges : List ℕ) (i : ℕ) where
     pub paired_next : i + 1 < length ranges
         → (not (cond (leb (get_or ranges i 0) (get_or ranges (i + 1) 0)) crossed true) && ranges_paired (drop (i + 2) ranges))
         ≡ (not crossed && ranges_paired (drop i ranges))
-    paired_next h = rw (pair h) (by (leb (get_or ranges i 0) (get_or ranges (i + 1) 0)) crossed (ranges_paired (drop (i + 2) ranges)))
+    paired_next h = rw (drop_pair h) (by (leb (get_or ranges i 0) (get_or ranges (i + 1) 0)) crossed (ranges_paired (drop (i + 2) ranges)))
       where
         by : (ordered crossed later : Bool) → (not (cond ordered crossed true) && later) ≡ (not crossed && (ordered && later))
         by true crossed later = refl
@@ -94,5 +94,5 @@ module _ (marks : List ℕ) (i most : ℕ) where
   pub plain_next : i < length marks
       → (let m = get_or marks i 0 in leb (cond (ltb most m) m most) 1 && marks_plain (drop (i + 1) marks)) ≡ (leb most 1 && marks_plain (drop i marks))
   plain_next h =
-      rw (next marks i h, larger_plain most (get_or marks i 0))
+      rw (drop_next marks i h, larger_plain most (get_or marks i 0))
       (and_assoc (leb most 1) (leb (get_or marks i 0) 1) (marks_plain (drop (i + 1) marks)))

@@ -9,7 +9,7 @@ use lib.ListN.{length, get_or, drop, length-drop}
 use borrow.Author.Tests.{leb-true, ltb-true, ltb-false}
 use Rattle.families.proofs.Tests.{both_left, both_right}
 use Rattle.script.specs.Input.{ranges_paired}
-use Rattle.script.proofs.RangeLaws.{next, pair}
+use Rattle.script.proofs.RangeLaws.{drop_next, drop_pair}
 use Rattle.script_lookup.specs.Rising.{range_first, range_last, ranges_rise, Rises}
 
 -- ---- the test's loop
@@ -29,7 +29,7 @@ module _ (ranges : List ℕ) (i : ℕ) (met : Bool) where
       → (not (cond (ltb (get_or ranges (i + 1) 0) (get_or ranges (i + 2) 0)) met true) && ranges_rise (drop (i + 2) ranges))
       ≡ (not met && ranges_rise (drop i ranges))
   rise_next h =
-      rw (pair ranges i (omega arith), next ranges (i + 2) h)
+      rw (drop_pair ranges i (omega arith), drop_next ranges (i + 2) h)
       (by (ltb (get_or ranges (i + 1) 0) (get_or ranges (i + 2) 0)) met (ranges_rise (get_or ranges (i + 2) 0 ∷ drop (i + 2 + 1) ranges)))
     where
       by : (above met later : Bool) → (not (cond above met true) && later) ≡ (not met && (above && later))
@@ -40,9 +40,9 @@ module _ (ranges : List ℕ) (i : ℕ) (met : Bool) where
 -- ---- what it says of any two ranges
 
 -- range i + 1 of a list is range i of the list without its first range
-pub shift : (first last : ℕ) (ranges : List ℕ) (i : ℕ)
+pub shifted_by_one : (first last : ℕ) (ranges : List ℕ) (i : ℕ)
     → (range_first (first ∷ last ∷ ranges) (suc i) ≡ range_first ranges i) × (range_last (first ∷ last ∷ ranges) (suc i) ≡ range_last ranges i)
-shift first last ranges i =
+shifted_by_one first last ranges i =
     let a : 2 * suc i ≡ suc (suc (2 * i)) = omega arith in
     let b : 2 * suc i + 1 ≡ suc (suc (2 * i + 1)) = omega arith in
     (ap (λ (m : ℕ). get_or (first ∷ last ∷ ranges) m 0) a, ap (λ (m : ℕ). get_or (first ∷ last ∷ ranges) m 0) b)
@@ -68,7 +68,7 @@ below_later first last (following ∷ its_last ∷ ranges) r p (suc j) h =
     let above = ltb-true last following (both_left (ltb last following) (ranges_rise (following ∷ its_last ∷ ranges)) r) in
     let rest = rise_rest first last (following ∷ its_last ∷ ranges) r in
     let later = below_later following its_last ranges rest (pair_rest following its_last ranges p) j (omega (arith, h)) in
-    rw (shift following its_last ranges j).0 (omega (arith, above, later, pair_own following its_last ranges p))
+    rw (shifted_by_one following its_last ranges j).0 (omega (arith, above, later, pair_own following its_last ranges p))
 
 -- of two ranges the later one lies above the other
 pub apart : (ranges : List ℕ) → ranges_rise ranges ≡ true → ranges_paired ranges ≡ true
@@ -77,9 +77,9 @@ apart [] r p i j l h = absurd (omega (arith, h))
 apart (first ∷ []) r p i j l h = absurd (true≢false (sym p))
 apart (first ∷ last ∷ ranges) r p i zero l h = absurd (omega (arith, l))
 apart (first ∷ last ∷ ranges) r p zero (suc j) l h =
-    rw (shift first last ranges j).0 (below_later first last ranges r (pair_rest first last ranges p) j (omega (arith, h)))
+    rw (shifted_by_one first last ranges j).0 (below_later first last ranges r (pair_rest first last ranges p) j (omega (arith, h)))
 apart (first ∷ last ∷ ranges) r p (suc i) (suc j) l h =
-    rw ((shift first last ranges i).1, (shift first last ranges j).0)
+    rw ((shifted_by_one first last ranges i).1, (shifted_by_one first last ranges j).0)
     (apart ranges (rise_rest first last ranges r) (pair_rest first last ranges p) i j (omega (arith, l)) (omega (arith, h)))
 
 -- no first is above its last
@@ -88,7 +88,7 @@ own [] p i h = absurd (omega (arith, h))
 own (first ∷ []) p i h = absurd (true≢false (sym p))
 own (first ∷ last ∷ ranges) p zero h = pair_own first last ranges p
 own (first ∷ last ∷ ranges) p (suc i) h =
-    let s = shift first last ranges i in
+    let s = shifted_by_one first last ranges i in
     rw (s.0, s.1) (own ranges (pair_rest first last ranges p) i (omega (arith, h)))
 
 -- where not all rise, some range is not above the one before it
@@ -110,8 +110,8 @@ some_meet (first ∷ last ∷ following ∷ ranges) r = by (ltb last following) 
         let i = m.0 in
         let all = first ∷ last ∷ following ∷ ranges in
         let place : suc i + 1 ≡ suc (i + 1) = omega arith in
-        let same_first = ap (range_first all) place ∙ (shift first last (following ∷ ranges) (i + 1)).0 in
-        (suc i, omega (arith, m.1), omega (arith, same_first, (shift first last (following ∷ ranges) i).1, m.2))
+        let same_first = ap (range_first all) place ∙ (shifted_by_one first last (following ∷ ranges) (i + 1)).0 in
+        (suc i, omega (arith, m.1), omega (arith, same_first, (shifted_by_one first last (following ∷ ranges) i).1, m.2))
 
 pub rises : (ranges : List ℕ) {answer : Bool} → answer ≡ ranges_rise ranges → Rises ranges answer
 rises ranges e = record { answered = e; apart = λ t. apart ranges (sym e ∙ t); meets = λ f. some_meet ranges (sym e ∙ f) }

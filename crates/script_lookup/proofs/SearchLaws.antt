@@ -19,7 +19,7 @@ use Rattle.script_lookup.specs.Lookup.{middle_of, looked_at, search_in, nothing_
 use Rattle.script_lookup.specs.WorkedLists.{spaced, WorkedLists}
 use Rattle.script_lookup.specs.Promises.{Searches, max_looks, QuickLookups}
 use Rattle.script_lookup.specs.declared.lookup.Lookup.{Lookup}
-use Rattle.script_lookup.proofs.RisingLaws.{apart, own, shift}
+use Rattle.script_lookup.proofs.RisingLaws.{apart, own, shifted_by_one}
 
 -- where the search goes on after a look at the middle range
 abbrev pub low_after : List ℕ → ℕ → ℕ → ℕ → ℕ
@@ -73,7 +73,7 @@ holds_listed [] i address h = absurd (omega (arith, h.there))
 holds_listed (first ∷ []) i address h = absurd (omega (arith, h.there))
 holds_listed (first ∷ last ∷ ranges) zero address h = rw (inside first address last h.first h.last) refl
 holds_listed (first ∷ last ∷ ranges) (suc i) address h =
-    let s = shift first last ranges i in
+    let s = shifted_by_one first last ranges i in
     let later : Holds ranges i address = record { there = omega (arith, h.there); first = omega (arith, s.0, h.first); last = omega (arith, s.1, h.last) } in
     or_right (within first address last) (listed_in ranges address) (holds_listed ranges i address later)
 
@@ -88,7 +88,7 @@ listed_holds (first ∷ last ∷ ranges) address h =
     by (inl e) later = let b = bounds first address last e in (0, record { there = omega arith; first = b.0; last = b.1 })
     by (inr e) later =
         let r = later e in
-        let s = shift first last ranges r.0 in
+        let s = shifted_by_one first last ranges r.0 in
         let h = r.1 in
         (suc r.0, record { there = omega (arith, h.there); first = omega (arith, s.0, h.first); last = omega (arith, s.1, h.last) })
 
@@ -222,9 +222,9 @@ module _ {ranges : List ℕ} {address low : ℕ} {found : Lookup} where
   searching_done s = sym (search_none ranges address s.left low found) ∙ s.same
 
   module _ {n : ℕ} (s : Searching ranges address low n found) (some : 0 < n) where
-    one_left : (l : ℕ) → s.left ≡ l → (m : ℕ) × (s.left ≡ suc m)
-    one_left zero e = absurd (omega (arith, s.enough, some, e))
-    one_left (suc m) e = (m, e)
+    one_remains : (l : ℕ) → s.left ≡ l → (m : ℕ) × (s.left ≡ suc m)
+    one_remains zero e = absurd (omega (arith, s.enough, some, e))
+    one_remains (suc m) e = (m, e)
 
     still_lie : (above : Bool) → 2 * (cond above (low + (n - middle_of n)) low + middle_of n) ≤ length ranges
     still_lie true = omega (arith, s.lie)
@@ -232,7 +232,7 @@ module _ {ranges : List ℕ} {address low : ℕ} {found : Lookup} where
 
     pub searching_on : Searching ranges address (low_after ranges address low n) (middle_of n) (looked_at ranges address (low + middle_of n) found)
     searching_on =
-        let o = one_left s.left refl in
+        let o = one_remains s.left refl in
         record {
           left = o.0;
           enough = omega (arith, s.enough, o.1, some);

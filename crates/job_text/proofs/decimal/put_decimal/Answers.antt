@@ -5,13 +5,13 @@ use native.Mathlib.Nat.{le_of_eq}
 use native.Mathlib.Omega.{arith}
 use lib.ListN.{length, take, drop, set, length-set, length-drop}
 use lib.Seq.{take_all}
-use Rattle.job_text.specs.Digits.{digit, decimal_in, decimal}
+use Rattle.job_text.specs.Digits.{digit, decimal_in, decimal_text}
 use Rattle.job_text.proofs.PutLaws.{puts_as}
 use Rattle.job_text.proofs.DecimalLaws.{next_digit, end, fewer_digits, digits_of}
 use Rattle.job_text.proofs.decimal.put_decimal.Goals as goal
 
 pub loop-rest-init : goal.loop-rest-init
-unfolding decimal
+unfolding decimal_text
 loop-rest-init c = (refl, omega arith, omega arith, omega arith, append-nil (decimal_in 20 c.args.n))
 
 pub loop-rest-preserved : goal.loop-rest-preserved
@@ -33,7 +33,7 @@ returns c =
     let text = set l.text (l.first - 1) (digit l.rest) in
     let size : length text ≡ 20 = length-set l.text (l.first - 1) (digit l.rest) ∙ l.invariant.0 in
     -- the part of the array that is put is the number's digits
-    let all_digits : take (20 - (l.first - 1)) (drop (l.first - 1) text) ≡ decimal a.n =
+    let all_digits : take (20 - (l.first - 1)) (drop (l.first - 1) text) ≡ decimal_text a.n =
     take_all
     (20 - (l.first - 1))
     (drop (l.first - 1) text)
@@ -41,6 +41,6 @@ returns c =
     ∙ end l.text l.first l.rest l.invariant.2 (omega arith) c.loop-rest-test.false
     ∙ l.invariant.4 in
     record {
-      puts = puts_as a.out.now a.at _ (decimal a.n) call.result call.new.out all_digits call.ensures;
+      puts = puts_as a.out.now a.at _ (decimal_text a.n) call.result call.new.out all_digits call.ensures;
       digits = digits_of a.n;
     }

@@ -18,7 +18,7 @@ use Rattle.run.specs.SlotRun.{Scene, SlotRun, scene_for, slot_run_for}
 use Rattle.run.specs.Replay.{entries_of, written_into, progress_of, full_slot_run}
 use Rattle.run.specs.declared.answers.Progress.{Progress}
 use Rattle.run_replay.specs.Progress.{progress_after, RunsThrough}
-use Rattle.run_replay.proofs.Replaying.{run, run_rests, run_stopped, progress_after_lem, store_room, store_is, slot_step_fits, written_length, writes_small}
+use Rattle.run_replay.proofs.Replaying.{run_to, run_rests, run_stopped, progress_after_lem, store_room, store_is, slot_step_fits, written_length, writes_small}
 use Rattle.run_replay.proofs.replays.run_slot_steps.Statement.{statement}
 use Rattle.run_replay.proofs.replays.run_slot_steps.Tie as tie
 use Rattle.event_log.specs.Log.{log_of}
@@ -26,7 +26,7 @@ use Rattle.event_log.specs.Log.{log_of}
 -- the first progress holds the slot and the flags that were handed in
 abbrev invariant-loop : tie.invariant-loop
 invariant-loop family code marks enable clocks known values writes₀ limit progress₀ steps₀ writes progress steps =
-    let r = run (scene_for family code marks enable (log_of clocks known values)) progress₀.slot progress₀.flags steps in
+    let r = run_to (scene_for family code marks enable (log_of clocks known values)) progress₀.slot progress₀.flags steps in
     (progress ≡ progress_of r) × (writes ≡ written_into writes₀ r.writes) × (steps ≤ limit)
 
 abbrev decreases-loop : tie.decreases-loop
@@ -72,13 +72,13 @@ module _ (c : tie.At-loop invariant-loop decreases-loop) where
   same : length c.loop.writes ≡ length entered.args.writes.now
   same =
       ap length c.loop.invariant.1
-      ∙ written_length entered.args.writes.now (run scene slot flags c.loop.steps).writes
+      ∙ written_length entered.args.writes.now (run_to scene slot flags c.loop.steps).writes
       (omega (arith, entered.pre.2, writes_small scene slot flags ip_low entered.pre.1 c.loop.steps))
 
-  ended : run scene slot flags c.loop.steps ≡ full_slot_run scene slot flags
+  ended : run_to scene slot flags c.loop.steps ≡ full_slot_run scene slot flags
       → RunsThrough scene entered.args.slot entered.args.flags entered.args.writes.now c.loop.writes c.loop.progress
   ended e =
-      let run_is : run scene slot flags c.loop.steps ≡ full_slot_run scene entered.args.slot entered.args.flags
+      let run_is : run_to scene slot flags c.loop.steps ≡ full_slot_run scene entered.args.slot entered.args.flags
       = e ∙ ap₂ (full_slot_run scene) begins.0 begins.1 in
       record {
         at_run = c.loop.invariant.0 ∙ ap progress_of run_is;
@@ -110,7 +110,7 @@ module _ (c : tie.After-take-slot-step invariant-loop decreases-loop) where
       slot_step_fits (scene loop) (slot loop) (flags loop) (ip_low loop) (entered loop).pre.1
       loop.loop.steps loop.loop.progress loop.loop.inv.0 runs_on c.take_slot_step.result c.take_slot_step.ensures few
 
-  after : progress_after loop.loop.progress c.take_slot_step.result ≡ progress_of (run (scene loop) (slot loop) (flags loop) (suc loop.loop.steps))
+  after : progress_after loop.loop.progress c.take_slot_step.result ≡ progress_of (run_to (scene loop) (slot loop) (flags loop) (suc loop.loop.steps))
   after =
       progress_after_lem (scene loop) (slot loop) (flags loop) (ip_low loop) (entered loop).pre.1
       loop.loop.steps loop.loop.progress loop.loop.inv.0 runs_on c.take_slot_step.result c.take_slot_step.ensures
@@ -122,7 +122,7 @@ module _ (c : tie.After-take-slot-step invariant-loop decreases-loop) where
       (entered loop).args.writes.now loop.loop.writes (entered loop).pre.2 loop.loop.inv.1
 
   stored : sets loop.loop.writes (2 * loop.loop.progress.writes) (entries_of (wrote_by c.take_slot_step.result.effect))
-      ≡ written_into (entered loop).args.writes.now (run (scene loop) (slot loop) (flags loop) (suc loop.loop.steps)).writes
+      ≡ written_into (entered loop).args.writes.now (run_to (scene loop) (slot loop) (flags loop) (suc loop.loop.steps)).writes
   stored =
       store_is (scene loop) (slot loop) (flags loop) (ip_low loop) (entered loop).pre.1
       loop.loop.steps loop.loop.progress loop.loop.inv.0 runs_on c.take_slot_step.result c.take_slot_step.ensures
@@ -166,7 +166,7 @@ same_length c = same c.before
 returns : tie.Need-returns invariant-loop decreases-loop
 returns c =
     let l = c.before in
-    ended l (ap (run (scene l) (slot l) (flags l)) (omega (arith, l.before.before.code_sized.ensures.answered)))
+    ended l (ap (run_to (scene l) (slot l) (flags l)) (omega (arith, l.before.before.code_sized.ensures.answered)))
 
 same_length_2 : tie.Need-same-length-2 invariant-loop decreases-loop
 same_length_2 c = same (looped c.before)
