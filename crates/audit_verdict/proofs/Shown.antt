@@ -291,8 +291,8 @@ module _ {x : Script} {ranges : List ℕ} (fit : Auditable x) {q : ℕ} {k : Kno
     wrote : length (run_for name log steps (begun s)).writes ≡ writes_over (actions_of w)
     wrote = ap (λ (r : SlotRun). length r.writes) (same start) ∙ omega (arith, (agrees start).writes, walk_writes w)
 
-    one_left : left_of log.clocks (run_for name log steps (begun s)).place ≡ 1
-    one_left = ap (λ (r : SlotRun). left_of log.clocks r.place) (same start) ∙ (arrived start).one_left
+    one_remains : left_of log.clocks (run_for name log steps (begun s)).place ≡ 1
+    one_remains = ap (λ (r : SlotRun). left_of log.clocks r.place) (same start) ∙ (arrived start).one_left
 
     passes_by : suc (run_for name log steps (begun s)).ewaits ≡ length log.clocks
     passes_by =
@@ -315,7 +315,7 @@ module _ {x : Script} {ranges : List ℕ} (fit : Auditable x) {q : ℕ} {k : Kno
 
     shown_from : {v : Verdict} → Ends x ranges q k v → From v
     shown_from ends =
-        record { there = there ends; counted = counted; wrote = wrote; one_left = one_left; passes_by = passes_by; shows = shows ends }
+        record { there = there ends; counted = counted; wrote = wrote; one_left = one_remains; passes_by = passes_by; shows = shows ends }
 
   pub shown_by : {v : Verdict} → Ends x ranges q k v → ShownBy x ranges log steps (writes_over (actions_of w)) v
   shown_by ends = record {

@@ -34,7 +34,7 @@ use Rattle.audit_verdict.proofs.Cases.{never}
 use Rattle.audit_verdict.proofs.Judging.{Fine}
 use Rattle.audit_verdict.proofs.Walk.{Walk, here, further, actions_of, walk_forward, way_is}
 use Rattle.audit_verdict.proofs.Claim.{audit_walked}
-use Rattle.audit_verdict.proofs.WitnessLog.{Bounded, bounded_next, bounded_start, wait_short, RowFits, first_fits, row_fits_after, reads_size}
+use Rattle.audit_verdict.proofs.WitnessLog.{StaysBelow, bounded_next, bounded_start, wait_short, RowFits, first_fits, row_fits_after, reads_size}
 use Rattle.audit_witness.specs.Witnesses.{way}
 use Rattle.audit_witness.specs.Inside.{with_row, timeline_of, nothing_made, made_after, Extends, Follows}
 use Rattle.audit_witness.specs.declared.rows.Timeline.{Timeline}
@@ -119,7 +119,7 @@ pub record Making (x : Script) (ranges : List ℕ) (place : ℕ) (way : List Act
   pub low : at ≤ 512
   pub few_steps : made.steps ≤ at
   pub few_writes : made.writes ≤ made.steps
-  pub bounded : Bounded at knows
+  pub bounded : StaysBelow at knows
   pub row_fits : RowFits knows.clocks made.row
   pub put : log ≡ rows_into lent before
 

@@ -20,8 +20,8 @@ allowed_range = 0x03
 abbrev pub host_write : ℕ
 host_write = 0x02
 
-abbrev pub row : ℕ
-row = 0x01
+abbrev pub log_row : ℕ
+log_row = 0x01
 
 abbrev pub end : ℕ
 end = 0x00
@@ -51,7 +51,7 @@ kinds counts =
     ∷ is host_write 3 8 max_writes counts.writes
     ∷ uncounted gate 4 18
     ∷ uncounted capture 5 5
-    ∷ is row 5 16 max_rows counts.rows
+    ∷ is log_row 5 16 max_rows counts.rows
     ∷ uncounted end 6 0
     ∷ []
 

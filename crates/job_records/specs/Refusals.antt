@@ -8,7 +8,7 @@ use Rattle.host_registers.specs.Access.{write_of}
 use Rattle.machine_execution.specs.Execution.{some_slot_executes}
 use Rattle.host_registers.specs.Promises.{outcome_number}
 use Rattle.machine_state.specs.declared.state.State.{State}
-use Rattle.job_records.specs.Records.{gate, capture, family, allowed_range, host_write, row, end, kind_of, is_out_of_order}
+use Rattle.job_records.specs.Records.{gate, capture, family, allowed_range, host_write, log_row, end, kind_of, is_out_of_order}
 use Rattle.words.specs.Numbers.{byte_at, word_at, long_at}
 use Rattle.probe_captures.specs.Masks.{is_bad_gate, is_bad_capture}
 use Rattle.probe_captures.specs.Records.{gate_in}
@@ -43,7 +43,7 @@ write_number rest s = cond (eqb (byte_at rest 0) host_write) (outcome_number (wr
 
 -- clocks out of range
 unfoldable pub is_bad_row : List ℕ → Bool
-is_bad_row rest = eqb (byte_at rest 0) row && not (clocks_in_range (long_at rest 1))
+is_bad_row rest = eqb (byte_at rest 0) log_row && not (clocks_in_range (long_at rest 1))
 
 -- 33 of a gate, of a capture, and of an end that captures are left at, with no row after them
 unfoldable pub is_bad_probe : List ℕ → Masks → Bool

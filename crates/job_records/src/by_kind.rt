@@ -4,7 +4,7 @@ ghost use Rattle.std.specs.Prelude.{◌≡◌, ℕ, List};
 ghost use Rattle.host_registers.specs.Promises.{outcome_number};
 ghost use Rattle.event_log.specs.Log.{log_of};
 ghost use Rattle.machine_state.specs.Sequencer.{state_from};
-ghost use Rattle.job_records.specs.Records.{family, allowed_range, host_write, row, end};
+ghost use Rattle.job_records.specs.Records.{family, allowed_range, host_write, log_row, end};
 ghost use Rattle.job_records.specs.Refusals.{refusal_of};
 ghost use Rattle.words.specs.Numbers.{byte_at};
 ghost use Rattle.job_records.specs.Inside.{RangeRead, RowStored, StateStored};
@@ -129,7 +129,7 @@ pub(crate) fn read_row(
     known: &mut [u32; 1024],
     values: &mut [u32; 1024],
 ) -> RowRead
-    requires { byte_at rest.now 0 ≡ row }
+    requires { byte_at rest.now 0 ≡ log_row }
     ensures { RowStored rest.now counts masks (log_of clocks.old known.old values.old)
         (log_of clocks.new known.new values.new) result }
 {

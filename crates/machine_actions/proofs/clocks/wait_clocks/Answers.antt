@@ -3,7 +3,7 @@ use mathlib.Core.Path.{◌≡◌, ◌∙◌, sym, ap}
 use mathlib.Core.Bool.{true}
 use Rattle.isa.specs.Wait.{wait_fits, wait_clocks}
 use Rattle.isa.proofs.Writing.{wait_fits_lem}
-use Rattle.isa.proofs.Clocks.{exact}
+use Rattle.isa.proofs.Clocks.{clocks_exact}
 use Rattle.machine_actions.proofs.clocks.wait_clocks.Goals as goal
 
 pub returns-then-wait_fits : goal.returns-then-wait_fits
@@ -11,7 +11,7 @@ unfolding wait_clocks
 returns-then-wait_fits c =
     let fits_so : wait_fits c.args.length c.args.shift ≡ true = sym c.wait_fits.ensures ∙ c.if-wait_fits.true in
     let a = c.args in
-    let e = exact a.length a.shift fits_so in
+    let e = clocks_exact a.length a.shift fits_so in
     rw fits_so (ap (λ (n : ℕ). n * 32) e)
 
 pub returns-else-wait_fits : goal.returns-else-wait_fits
