@@ -23,7 +23,7 @@ use Rattle.audit_verdict.specs.Auditor.{fault_of, can_release, know_nothing}
 use Rattle.audit_verdict.specs.Demand3.{AtPlace, Fetchless, Witness, Shows, FaultMeans}
 use Rattle.audit_verdict.specs.Start.{Start}
 use Rattle.audit_verdict.specs.declared.verdicts.Knowledge.{Knowledge}
-use Rattle.audit_verdict.proofs.Going.{scene_under, next, run_rests, Going}
+use Rattle.audit_verdict.proofs.Going.{scene_under, after_step, run_rests, Going}
 use Rattle.audit_verdict.proofs.Judging.{Blame}
 use Rattle.audit_verdict.proofs.Walk.{Walk}
 use Rattle.audit_verdict.proofs.Starts.{slot_follows, effect_follows, some_state, some_start}
@@ -40,7 +40,7 @@ stuck {x} {p} e c fit {name} {s} start log valid n at m =
     let waits = (stuck_there e c log (rw (slot_follows start fit log valid n) at g)).waits in
     let split : suc (n + m) ≡ n + suc m = omega arith in
     rw (split, effect_follows start fit log valid (n + suc m), slot_add (scene_under x log) n (suc m) slot)
-    (rw (run_rests (scene_under x log) (next (scene_under x log) (slot_run_for (scene_under x log) n slot)) (ap is_running waits) m, waits) tt)
+    (rw (run_rests (scene_under x log) (after_step (scene_under x log) (slot_run_for (scene_under x log) n slot)) (ap is_running waits) m, waits) tt)
 
 module _ {x : Script} {ranges : List ℕ} (fit : Auditable x) {q : ℕ} {k : Knowledge} (w : Walk x ranges x.entry know_nothing q k) where
   abbrev Means : Fault → Type 0
