@@ -13,8 +13,8 @@ ghost use Rattle.run.specs.SlotRun.{scene_for, slot_begun, slot_at_entry};
 ghost use Rattle.script.specs.Script.{script_of};
 ghost use Rattle.run_replay.specs.Progress.{progress_after, RunsThrough};
 
-use isa::{CodeAddress, Decoded, MmioAddress};
 use event_log::Place;
+use isa::{CodeAddress, Decoded, MmioAddress};
 use machine_flags::Flags;
 use machine_slot::{Effect, SlotStep};
 use machine_state::{Mode, Slot};
