@@ -73,7 +73,8 @@ module _ (lent : Log) (rows : List Row) where
     values = field_length (λ (r : Row). r.values) lent.values rows h.values;
   }
 
-  pub rows_more : (more : List Row) → Room (length rows + length more) lent → with_rows_at (rows_into lent rows) (length rows) more ≡ rows_into lent (rows ++ more)
+  pub rows_more : (more : List Row) → Room (length rows + length more) lent
+      → with_rows_at (rows_into lent rows) (length rows) more ≡ rows_into lent (rows ++ more)
   rows_more more h = rw (
     field_more (λ (r : Row). r.clocks) lent.clocks rows more h.clocks,
     field_more (λ (r : Row). r.known) lent.known rows more h.known,

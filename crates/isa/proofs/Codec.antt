@@ -73,7 +73,8 @@ abbrev AreBytes : List ℕ → Type 0
 AreBytes bs = (j : ℕ) → get_or bs j 0 < 256
 
 -- an instruction that its first byte holds whole
-one_byte : (f : ℕ) (i : Instruction) (x : ℕ) (xs : List ℕ) → spell i ≡ x ∷ [] → on_family f (opcode_of i) ≡ true → operands_fit i ≡ true → Spelled f (x ∷ xs) i 1
+one_byte : (f : ℕ) (i : Instruction) (x : ℕ) (xs : List ℕ) → spell i ≡ x ∷ [] → on_family f (opcode_of i) ≡ true → operands_fit i ≡ true
+    → Spelled f (x ∷ xs) i 1
 one_byte f i x xs e o w = record { bytes = e; on = o; fit = w; width = ap length e; some = omega arith; room = omega arith }
 
 -- a first byte and a number of n bytes after it

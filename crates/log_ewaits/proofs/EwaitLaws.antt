@@ -1,5 +1,6 @@
 -- An ewait's search, row by row; what it promises. Assumes nothing.
-use Rattle.std.proofs.Common.{◌≡◌, ℕ, zero, suc, ◌+◌, ◌-◌, ◌%◌, ◌^◌, ◌<◌, ◌≤◌, Bool, true, false, ◌&&◌, eqb, ltb, List, length, get_or, sym, refl, ap, ◌∙◌, subst, add-zero, add_assoc, mod-eq_of_lt, zero-add, arith, ltb-true, eqb-true}
+use Rattle.std.proofs.Common.{◌≡◌, ℕ, zero, suc, ◌+◌, ◌-◌, ◌%◌, ◌^◌, ◌<◌, ◌≤◌, Bool, true, false, ◌&&◌, eqb, ltb, List, length, get_or}
+use Rattle.std.proofs.Common.{sym, refl, ap, ◌∙◌, subst, add-zero, add_assoc, mod-eq_of_lt, zero-add, arith, ltb-true, eqb-true}
 use mathlib.Core.Bool.{and-eq-true_iff}
 use native.Mathlib.Nat.{mod-add-mod}
 use Rattle.log_waits.specs.Left.{left_from, left_of}
@@ -92,7 +93,8 @@ module _ (log : Log) (event value : ℕ) where
       passing_here h t = rw (search_here h t, add-zero)
 
       passing_next : row < length log.clocks → reads_at row ≡ false
-          → passing passed (search_from log event value row used) ≡ passing (passed + (get_or log.clocks row 0 - used)) (search_from log event value (row + 1) 0)
+          → passing passed (search_from log event value row used)
+          ≡ passing (passed + (get_or log.clocks row 0 - used)) (search_from log event value (row + 1) 0)
       passing_next h t = rw (search_next h t) (passing_more passed (get_or log.clocks row 0 - used) (search_from log event value (row + 1) 0))
 
       -- and those kept in 64 bits

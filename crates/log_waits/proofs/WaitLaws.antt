@@ -41,8 +41,10 @@ module _ (clocks : List ℕ) (row used n : ℕ) where
 -- what the three laws keep holds of every wait
 pub wait_elim : (clocks : List ℕ) (P : ℕ → ℕ → ℕ → Waited → Type 0)
     → ((row used n : ℕ) → length clocks ≤ row → P row used n (record { place = record { row = row; used = 0 }; cut = n }))
-    → ((row used n : ℕ) → row < length clocks → n < get_or clocks row 0 - used → P row used n (record { place = record { row = row; used = used + n }; cut = 0 }))
-    → ((row used n : ℕ) (w : Waited) → row < length clocks → get_or clocks row 0 - used ≤ n → P (row + 1) 0 (n - (get_or clocks row 0 - used)) w → P row used n w)
+    → ((row used n : ℕ) → row < length clocks → n < get_or clocks row 0 - used
+    → P row used n (record { place = record { row = row; used = used + n }; cut = 0 }))
+    → ((row used n : ℕ) (w : Waited) → row < length clocks → get_or clocks row 0 - used ≤ n
+    → P (row + 1) 0 (n - (get_or clocks row 0 - used)) w → P row used n w)
     → (row used n : ℕ) → P row used n (wait_from clocks row used n)
 wait_elim clocks P at_end inside onward row used n = by (length clocks - row) row used n refl
   where

@@ -21,7 +21,8 @@ module _ (ranges : List ℕ) (i : ℕ) where
   pub drop_pair : i + 1 < length ranges → drop i ranges ≡ get_or ranges i 0 ∷ get_or ranges (i + 1) 0 ∷ drop (i + 2) ranges
   drop_pair h =
       let z : i + 1 + 1 ≡ i + 2 = omega arith in
-      drop_next ranges i (omega arith) ∙ ap (λ (l : List ℕ). get_or ranges i 0 ∷ l) (drop_next ranges (i + 1) h ∙ ap (λ (n : ℕ). get_or ranges (i + 1) 0 ∷ drop n ranges) z)
+      drop_next ranges i (omega arith) ∙ ap (λ (l : List ℕ). get_or ranges i 0 ∷ l)
+      (drop_next ranges (i + 1) h ∙ ap (λ (n : ℕ). get_or ranges (i + 1) 0 ∷ drop n ranges) z)
 
   alone : i < length ranges → length ranges - i < 2 → drop i ranges ≡ get_or ranges i 0 ∷ []
   alone h l = drop_next ranges i h ∙ ap (λ (r : List ℕ). get_or ranges i 0 ∷ r) (drop_of_length-le ranges (let g : length ranges ≤ i + 1 = omega arith in g))

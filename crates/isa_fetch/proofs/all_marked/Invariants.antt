@@ -1,8 +1,5 @@
-use mathlib.Core.Path.{◌≡◌, refl, sym, ◌∙◌}
-use native.Mathlib.Omega.{arith}
-use lib.ListN.{get_or}
+use mathlib.Core.Path.{◌≡◌}
 use Rattle.isa_fetch.specs.Fetch.{all_marked}
-use Rattle.isa_fetch.proofs.Marks.{marked_within, marked_none, marked_next, marked_not}
 use Rattle.isa_fetch.proofs.all_marked.Given as goal
 
 abbrev pub invariant-loop-left : goal.invariant-loop-left

@@ -1,10 +1,7 @@
 use Prim.Native.Nat.{◌-◌}
-use mathlib.Core.Path.{◌≡◌, sym, ◌∙◌}
-use native.Mathlib.Omega.{arith}
+use mathlib.Core.Path.{◌≡◌}
 use lib.ListN.{length, drop}
-use borrow.Author.Tests.{not-true, not-false}
 use Rattle.event_log.specs.Validity.{rows_in_range}
-use Rattle.event_log.proofs.Ranges.{range_next, range_not, range_end}
 use Rattle.event_log.proofs.validity.rows_in_range.Given as goal
 
 abbrev pub invariant-loop-row : goal.invariant-loop-row

@@ -28,13 +28,15 @@ returns-then-not-known_family c = refused Unwritable.Family (no_family _ _ _ (sy
 pub returns-then-not-on_family : goal.returns-then-not-on_family
 returns-then-not-on_family c =
     let family : known_family c.args.family ≡ true = sym c.known_family.ensures ∙ c.if-not-known_family.false in
-    let on_is : let a = c.args in c.on_family.result ≡ on_family a.family (opcode_of a.instruction) = c.on_family.ensures ∙ ap (on_family c.args.family) c.opcode_of.ensures in
+    let on_is : let a = c.args in c.on_family.result ≡ on_family a.family (opcode_of a.instruction)
+    = c.on_family.ensures ∙ ap (on_family c.args.family) c.opcode_of.ensures in
     refused Unwritable.NotOnFamily (not_on _ _ _ family (sym on_is ∙ c.if-not-on_family.true))
 
 pub returns-then-not-operands_fit : goal.returns-then-not-operands_fit
 returns-then-not-operands_fit c =
     let family : known_family c.args.family ≡ true = sym c.known_family.ensures ∙ c.if-not-known_family.false in
-    let on_is : let a = c.args in c.on_family.result ≡ on_family a.family (opcode_of a.instruction) = c.on_family.ensures ∙ ap (on_family c.args.family) c.opcode_of.ensures in
+    let on_is : let a = c.args in c.on_family.result ≡ on_family a.family (opcode_of a.instruction)
+    = c.on_family.ensures ∙ ap (on_family c.args.family) c.opcode_of.ensures in
     let on : let a = c.args in on_family a.family (opcode_of a.instruction) ≡ true = sym on_is ∙ c.if-not-on_family.false in
     refused Unwritable.Operand (bad_operand _ _ _ family on
     (sym c.operands_fit.ensures ∙ c.if-not-operands_fit.true))
@@ -42,7 +44,8 @@ returns-then-not-operands_fit c =
 pub returns-then-n-out : goal.returns-then-n-out
 returns-then-n-out c =
     let family : known_family c.args.family ≡ true = sym c.known_family.ensures ∙ c.if-not-known_family.false in
-    let on_is : let a = c.args in c.on_family.result ≡ on_family a.family (opcode_of a.instruction) = c.on_family.ensures ∙ ap (on_family c.args.family) c.opcode_of.ensures in
+    let on_is : let a = c.args in c.on_family.result ≡ on_family a.family (opcode_of a.instruction)
+    = c.on_family.ensures ∙ ap (on_family c.args.family) c.opcode_of.ensures in
     let on : let a = c.args in on_family a.family (opcode_of a.instruction) ≡ true = sym on_is ∙ c.if-not-on_family.false in
     let fit : operands_fit c.args.instruction ≡ true = sym c.operands_fit.ensures ∙ c.if-not-operands_fit.false in
     let width_is : c.width-n.result ≡ length (spell c.args.instruction) = c.width-n.ensures ∙ ap length c.spelled-spelling.ensures.0 in
@@ -72,7 +75,8 @@ returns-then-n-out c =
 pub returns : goal.returns
 returns c =
     let family : known_family c.args.family ≡ true = sym c.known_family.ensures ∙ c.if-not-known_family.false in
-    let on_is : let a = c.args in c.on_family.result ≡ on_family a.family (opcode_of a.instruction) = c.on_family.ensures ∙ ap (on_family c.args.family) c.opcode_of.ensures in
+    let on_is : let a = c.args in c.on_family.result ≡ on_family a.family (opcode_of a.instruction)
+    = c.on_family.ensures ∙ ap (on_family c.args.family) c.opcode_of.ensures in
     let on : let a = c.args in on_family a.family (opcode_of a.instruction) ≡ true = sym on_is ∙ c.if-not-on_family.false in
     let fit : operands_fit c.args.instruction ≡ true = sym c.operands_fit.ensures ∙ c.if-not-operands_fit.false in
     let width_is : c.width-n.result ≡ length (spell c.args.instruction) = c.width-n.ensures ∙ ap length c.spelled-spelling.ensures.0 in

@@ -7,8 +7,9 @@ use Rattle.log_ewaits.proofs.ewait.event_wait.Goals as goal
 pub loop-row-preserved : goal.loop-row-preserved
 loop-row-preserved c =
     let logged : Log = let a = c.args in log_of a.clocks.now a.known.now a.values.now in
-    let tested : let a = c.args in c.has_reading.result ≡ has_reading (get_or a.known.now c.loop-row.row 0) (get_or a.values.now c.loop-row.row 0) a.event a.value =
-    let a = c.args in
+    let tested : let a = c.args in let v = c.loop-row in
+    c.has_reading.result ≡ has_reading (get_or a.known.now v.row 0) (get_or a.values.now v.row 0) a.event a.value
+    = let a = c.args in
     c.has_reading.ensures ∙ ap₂ (λ (k v : ℕ). has_reading k v a.event a.value) c.mask_at.ensures c.mask_at-in-loop-row.ensures in
     let a = c.args in
     let v = c.loop-row in
@@ -31,8 +32,9 @@ returns-then-clocks-row c =
 pub returns-then-has_reading : goal.returns-then-has_reading
 returns-then-has_reading c =
     let logged : Log = let a = c.args in log_of a.clocks.now a.known.now a.values.now in
-    let tested : let a = c.args in c.has_reading.result ≡ has_reading (get_or a.known.now c.loop-row.row 0) (get_or a.values.now c.loop-row.row 0) a.event a.value =
-    let a = c.args in
+    let tested : let a = c.args in let v = c.loop-row in
+    c.has_reading.result ≡ has_reading (get_or a.known.now v.row 0) (get_or a.values.now v.row 0) a.event a.value
+    = let a = c.args in
     c.has_reading.ensures ∙ ap₂ (λ (k v : ℕ). has_reading k v a.event a.value) c.mask_at.ensures c.mask_at-in-loop-row.ensures in
     let a = c.args in
     let v = c.loop-row in

@@ -1,6 +1,5 @@
-use Rattle.std.proofs.Common.{◌≡◌, ℕ, ◌+◌, ◌-◌, ◌%◌, ◌^◌, ◌<◌, length, get_or, sym, ap, ◌∙◌, subst, mod-lt, zero-add, lit<, rules}
+use Rattle.std.proofs.Common.{◌≡◌, ◌+◌, ◌-◌, ◌%◌, ◌^◌, ◌<◌, length}
 use Rattle.log_waits.specs.Left.{left_from}
-use Rattle.log_waits.proofs.LeftLaws.{left_sum_end, left_sum_on}
 use Rattle.log_waits.proofs.left.clocks_left.Given as goal
 
 abbrev pub invariant-loop-row : goal.invariant-loop-row

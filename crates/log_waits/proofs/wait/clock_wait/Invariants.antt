@@ -1,6 +1,5 @@
-use Rattle.std.proofs.Common.{◌≡◌, ℕ, ◌+◌, ◌-◌, ◌<◌, ◌≤◌, length, sym, refl, ap, ◌∙◌, subst, arith, rules}
+use Rattle.std.proofs.Common.{◌≡◌, ◌-◌, length}
 use Rattle.log_waits.specs.Wait.{wait_from}
-use Rattle.log_waits.proofs.WaitLaws.{wait_end, wait_in_lem, wait_on, waits}
 use Rattle.log_waits.proofs.wait.clock_wait.Given as goal
 
 abbrev pub invariant-loop-row : goal.invariant-loop-row

@@ -2,7 +2,6 @@ use Prim.Native.Nat.{ℕ, ◌*◌}
 use mathlib.Core.Path.{◌≡◌, ◌∙◌, sym, ap}
 use mathlib.Core.Bool.{true}
 use Rattle.isa.specs.Wait.{wait_fits, wait_clocks}
-use Rattle.isa.proofs.Writing.{wait_fits_lem}
 use Rattle.isa.proofs.Clocks.{clocks_exact}
 use Rattle.machine_actions.proofs.clocks.wait_clocks.Goals as goal
 

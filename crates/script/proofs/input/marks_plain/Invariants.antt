@@ -1,11 +1,9 @@
-use Prim.Native.Nat.{ℕ, ◌+◌, ◌-◌}
-use mathlib.Core.Path.{◌≡◌, refl, ap, ◌∙◌}
+use Prim.Native.Nat.{◌-◌}
+use mathlib.Core.Path.{◌≡◌}
 use mathlib.Core.Bool.{◌&&◌}
-use native.Mathlib.Omega.{arith}
 use lib.Dec.{leb}
 use lib.ListN.{length, drop}
 use Rattle.script.specs.Input.{marks_plain}
-use Rattle.script.proofs.RangeLaws.{plain_end, plain_next}
 use Rattle.script.proofs.input.marks_plain.Given as goal
 
 abbrev pub invariant-loop-i : goal.invariant-loop-i

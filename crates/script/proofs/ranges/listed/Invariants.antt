@@ -1,9 +1,7 @@
 use Prim.Native.Nat.{◌-◌}
-use mathlib.Core.Path.{◌≡◌, refl, sym, ◌∙◌}
-use native.Mathlib.Omega.{arith}
+use mathlib.Core.Path.{◌≡◌}
 use lib.ListN.{length, drop}
 use Rattle.script.specs.Input.{listed_in}
-use Rattle.script.proofs.RangeLaws.{listed_end, listed_alone, listed_here, listed_next}
 use Rattle.script.proofs.ranges.listed.Given as goal
 
 abbrev pub invariant-loop-i : goal.invariant-loop-i

@@ -1,4 +1,3 @@
-use Prim.Native.Nat.{◌-◌}
 use Rattle.script.proofs.RangeLaws.{paired_odd}
 use Rattle.script.proofs.ranges.ranges_paired.Goals as goal
 

@@ -1,10 +1,8 @@
-use Prim.Native.Nat.{◌+◌, ◌-◌, ◌%◌, ◌<◌}
-use mathlib.Core.Path.{◌≡◌, refl, ap, ◌∙◌}
-use mathlib.Core.Bool.{Bool, not, ◌&&◌}
-use native.Mathlib.Omega.{arith}
+use Prim.Native.Nat.{◌-◌, ◌%◌}
+use mathlib.Core.Path.{◌≡◌}
+use mathlib.Core.Bool.{not, ◌&&◌}
 use lib.ListN.{length, drop}
 use Rattle.script.specs.Input.{ranges_paired}
-use Rattle.script.proofs.RangeLaws.{paired_end, paired_next, paired_odd}
 use Rattle.script.proofs.ranges.ranges_paired.Given as goal
 
 abbrev pub invariant-loop-i : goal.invariant-loop-i
