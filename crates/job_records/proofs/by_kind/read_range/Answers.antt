@@ -54,7 +54,7 @@ overflow_mul-bounds c =
     let rest : List ℕ = c.args.rest.now in
     let counts : Counts = c.args.counts in
     let fine : shape_number rest 3 counts ≡ 0 = sym c.shape_number-number.ensures ∙ c.if-number-ne0.false in
-    let room : counts.ranges-2 < 64 = (range_fits rest counts c.requires fine).1 in
+    let room : counts.ranges < 64 = (range_fits rest counts c.requires fine).1 in
     omega (arith, room)
 
 pub offset_bounds-bounds-n : goal.offset_bounds-bounds-n
@@ -62,7 +62,7 @@ offset_bounds-bounds-n c =
     let rest : List ℕ = c.args.rest.now in
     let counts : Counts = c.args.counts in
     let fine : shape_number rest 3 counts ≡ 0 = sym c.shape_number-number.ensures ∙ c.if-number-ne0.false in
-    let room : counts.ranges-2 < 64 = (range_fits rest counts c.requires fine).1 in
+    let room : counts.ranges < 64 = (range_fits rest counts c.requires fine).1 in
     omega (arith, room)
 
 pub bounds-bounds-n : goal.bounds-bounds-n
@@ -70,7 +70,7 @@ bounds-bounds-n c =
     let rest : List ℕ = c.args.rest.now in
     let counts : Counts = c.args.counts in
     let fine : shape_number rest 3 counts ≡ 0 = sym c.shape_number-number.ensures ∙ c.if-number-ne0.false in
-    let room : counts.ranges-2 < 64 = (range_fits rest counts c.requires fine).1 in
+    let room : counts.ranges < 64 = (range_fits rest counts c.requires fine).1 in
     omega (arith, room)
 
 pub overflow_mul-bounds-2 : goal.overflow_mul-bounds-2
@@ -78,7 +78,7 @@ overflow_mul-bounds-2 c =
     let rest : List ℕ = c.args.rest.now in
     let counts : Counts = c.args.counts in
     let fine : shape_number rest 3 counts ≡ 0 = sym c.shape_number-number.ensures ∙ c.if-number-ne0.false in
-    let room : counts.ranges-2 < 64 = (range_fits rest counts c.requires fine).1 in
+    let room : counts.ranges < 64 = (range_fits rest counts c.requires fine).1 in
     omega (arith, room)
 
 pub overflow_add-bounds : goal.overflow_add-bounds
@@ -86,7 +86,7 @@ overflow_add-bounds c =
     let rest : List ℕ = c.args.rest.now in
     let counts : Counts = c.args.counts in
     let fine : shape_number rest 3 counts ≡ 0 = sym c.shape_number-number.ensures ∙ c.if-number-ne0.false in
-    let room : counts.ranges-2 < 64 = (range_fits rest counts c.requires fine).1 in
+    let room : counts.ranges < 64 = (range_fits rest counts c.requires fine).1 in
     omega (arith, room)
 
 pub offset_bounds-bounds-n-2 : goal.offset_bounds-bounds-n-2
@@ -94,7 +94,7 @@ offset_bounds-bounds-n-2 c =
     let rest : List ℕ = c.args.rest.now in
     let counts : Counts = c.args.counts in
     let fine : shape_number rest 3 counts ≡ 0 = sym c.shape_number-number.ensures ∙ c.if-number-ne0.false in
-    let room : counts.ranges-2 < 64 = (range_fits rest counts c.requires fine).1 in
+    let room : counts.ranges < 64 = (range_fits rest counts c.requires fine).1 in
     omega (arith, room)
 
 pub bounds-bounds-n-2 : goal.bounds-bounds-n-2
@@ -102,7 +102,7 @@ bounds-bounds-n-2 c =
     let rest : List ℕ = c.args.rest.now in
     let counts : Counts = c.args.counts in
     let fine : shape_number rest 3 counts ≡ 0 = sym c.shape_number-number.ensures ∙ c.if-number-ne0.false in
-    let room : counts.ranges-2 < 64 = (range_fits rest counts c.requires fine).1 in
+    let room : counts.ranges < 64 = (range_fits rest counts c.requires fine).1 in
     omega (arith, room)
 
 pub returns : goal.returns

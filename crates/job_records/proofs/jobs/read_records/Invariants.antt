@@ -33,6 +33,22 @@ use Rattle.job_records.proofs.Reading.{end_reached, none_reached}
 use Rattle.job_records.proofs.Starting.{started}
 use Rattle.job_records.proofs.jobs.read_records.Given as goal
 
+-- the answer from the start
+abbrev pub from_start : List ℕ → JobRead
+from_start bytes = read_in (suc (length bytes)) bytes 0 empty_job
+
+-- beside that: no event's count is above the bytes read
+abbrev pub Inv : List ℕ → ℕ → Job → Type 0
+Inv bytes at j = (at ≤ length bytes) × Going j × CountsWithin at j.probes × ((f : ℕ) × (length bytes < at + f) × (read_in f bytes at j ≡ from_start bytes))
+
+abbrev pub probes_of : Masks → List EventGate → List Extent → Probes
+probes_of masks gates extents = record { masks = masks; gates = gates; extents = extents }
+
+-- what was read so far, of the loop's variables
+abbrev pub job_of : Counts → List ℕ → State → Log → Probes → Job
+job_of counts bounds s log probes =
+    record { counts = counts; bounds = bounds; state = s; clocks = log.clocks; known = log.known; values = log.values; probes = probes }
+
 abbrev pub invariant-loop-code : goal.invariant-loop-code
 invariant-loop-code l =
     Inv l.bytes l.at (job_of l.counts l.bounds (state_from l.sequencer l.code l.marks) (log_of l.clocks l.known l.values) (probes_of l.masks l.gates l.extents))
