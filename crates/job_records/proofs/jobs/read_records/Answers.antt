@@ -32,6 +32,8 @@ use Rattle.job_records.proofs.Reading.{StateKind, storeless, Reached, row_reache
 use Rattle.job_records.proofs.Reading.{end_reached, none_reached}
 use Rattle.job_records.proofs.Starting.{started}
 use Rattle.job_records.proofs.jobs.read_records.Invariants.{from_start, probes_of, job_of}
+use Rattle.job_records.proofs.jobs.read_records.Goals.{in-4, in-3, in-2, in-6, in-5, in-1, in-0, in_default}
+use Rattle.job_records.proofs.jobs.read_records.Goals.{then-number-ne0-via-then-number-ne0, then-number-ne0-via-else-number-ne0+then-kind-eq-END}
 use Rattle.job_records.proofs.jobs.read_records.Goals as goal
 
 of_state_4 : StateKind 4
@@ -75,56 +77,49 @@ returns-then-number-ne0 c =
     let m = c.match-kind in
     job_of c.loop-code.counts m.bounds (state_from m.sequencer m.code m.marks) (log_of m.clocks m.known m.values)
     (probes_of m.masks m.gates m.extents) in
-    let reached : Reached rest job c.match-kind.number after =
     let same = from input c.loop-code.at in
     let kind = sym c.byte_at-kind.ensures in
     let size = c.loop-code.invariant.1.size in
-    ⊎_elim
-    (λ w. told same w.6 w.7 w.8 w.9 w.10 w.11 w.12 w.13 w.14 w.15 w.16
-    (state_reached lent job _ 4 (kind ∙ w.0.keys1) (omega arith) of_state_4 (w.4.ensures.tested c.loop-code.masks) w.4.ensures.state))
-    (⊎_elim
-    (λ w. told same w.4 w.5 w.6 w.7 w.8 w.9 w.10 w.11 w.12 w.13 w.14
-    (range_reached lent job _ (kind ∙ w.0.keys2) w.3.ensures))
-    (⊎_elim
-    (λ w. told same w.6 w.7 w.8 w.9 w.10 w.11 w.12 w.13 w.14 w.15 w.16
-    (state_reached lent job _ 2 (kind ∙ w.0.keys3) (omega arith) of_state_2 (w.4.ensures.tested c.loop-code.masks) w.4.ensures.state))
-    (⊎_elim
-    (λ w. told same w.8 w.9 w.10 w.11 w.12 w.13 w.14 w.15 w.16 w.17 w.18
-    (gate_reached lent job _ w.2.ensures.0 (kind ∙ w.0.keys4) _ refl w.5.ensures))
-    (⊎_elim
-    (λ w. told same w.10 w.11 w.12 w.13 w.14 w.15 w.16 w.17 w.18 w.19 w.20
-    (capture_reached lent job _ w.2.ensures.0 (kind ∙ w.0.keys5) (omega (arith, w.2.ensures.1, size.gates))
-    (omega (arith, w.2.ensures.1, size.extents)) _ _ refl w.6.ensures))
-    (⊎_elim
-    (λ w. told same w.7 w.8 w.9 w.10 w.11 w.12 w.13 w.14 w.15 w.16 w.17
-    (row_reached lent job _ (kind ∙ w.0.keys6) w.5.ensures))
-    (⊎_elim
-    (λ w. told same w.3 w.4 w.5 w.6 w.7 w.8 w.9 w.10 w.11 w.12 w.13
-    (end_reached lent job _ (kind ∙ w.0.keys7) (w.2.ensures c.loop-code.code c.loop-code.marks)))
-    (λ w. let n = w.0.rest in
-    let late = n.0.0.0 in
-    let other : (k : ℕ) → (c.byte_at-kind.result ≡ k → ⊥) → byte_at lent 0 ≡ k → ⊥ = λ k h e. h (sym kind ∙ e) in
-    let none : NoKind (byte_at lent 0) = record {
-      family = other 4 late.0.0.0.1;
-      range = other 3 late.0.0.1;
-      write = other 2 late.0.1;
-      gate = other 6 late.1;
-      capture = other 5 n.0.0.1;
-      row = other 1 n.0.1;
-      end = other 0 n.1;
-    } in
-    told same w.1 w.2 w.3 w.4 w.5 w.6 w.7 w.8 w.9 w.10 w.11
-    (none_reached lent job 21 (storeless none) (no_kind lent c.loop-code.counts none c.loop-code.masks job.state)))))))))
-    c.match-kind.branch in
-    let ends : c.match-kind.number ≡ 0 → byte_at rest 0 ≡ 0 = λ z. ⊎_elim (λ w. absurd (w.taken z)) (λ w. sym kind_is ∙ eqb-true c.byte_at-kind.result 0 w.1.taken)
-    c.then-number-ne0.branch in
+    let reached : Reached rest job c.match-kind.number after =
+    elim c.match-kind.branch [
+      | in-4 w ↦ told same w.bounds-is w.sequencer-is w.code-is w.marks-is w.clocks-is w.known-is w.values-is w.masks-is w.gates-is w.extents-is w.number-is
+          (state_reached lent job _ 4 (kind ∙ w.in-4.is) (omega arith) of_state_4 (w.read_family-read.ensures.tested c.loop-code.masks)
+          w.read_family-read.ensures.state)
+      | in-3 w ↦ told same w.bounds-is w.sequencer-is w.code-is w.marks-is w.clocks-is w.known-is w.values-is w.masks-is w.gates-is w.extents-is w.number-is (range_reached lent job _ (kind ∙ w.in-3.is) w.read_range-number.ensures)
+      | in-2 w ↦ told same w.bounds-is w.sequencer-is w.code-is w.marks-is w.clocks-is w.known-is w.values-is w.masks-is w.gates-is w.extents-is w.number-is
+          (state_reached lent job _ 2 (kind ∙ w.in-2.is) (omega arith) of_state_2 (w.read_write-read.ensures.tested c.loop-code.masks)
+          w.read_write-read.ensures.state)
+      | in-6 w ↦ told same w.bounds-is w.sequencer-is w.code-is w.marks-is w.clocks-is w.known-is w.values-is w.masks-is w.gates-is w.extents-is w.number-is (gate_reached lent job _ w.event_in-event.ensures.value (kind ∙ w.in-6.is) _ refl w.read_gate-read.ensures)
+      | in-5 w ↦ let event = w.event_in-event-in-5.ensures in
+          told same w.bounds-is w.sequencer-is w.code-is w.marks-is w.clocks-is w.known-is w.values-is w.masks-is w.gates-is w.extents-is w.number-is
+          (capture_reached lent job _ event.value (kind ∙ w.in-5.is) (omega (arith, event.upper_bound, size.gates))
+          (omega (arith, event.upper_bound, size.extents)) _ _ refl w.read_capture-read.ensures)
+      | in-1 w ↦ told same w.bounds-is w.sequencer-is w.code-is w.marks-is w.clocks-is w.known-is w.values-is w.masks-is w.gates-is w.extents-is w.number-is (row_reached lent job _ (kind ∙ w.in-1.is) w.read_row-read.ensures)
+      | in-0 w ↦ told same w.bounds-is w.sequencer-is w.code-is w.marks-is w.clocks-is w.known-is w.values-is w.masks-is w.gates-is w.extents-is w.number-is
+          (end_reached lent job _ (kind ∙ w.in-0.is) (w.read_end-number.ensures c.loop-code.code c.loop-code.marks))
+      | in_default w ↦ let none : NoKind (byte_at lent 0) = record {
+        family = λ e. omega (arith, kind, e);
+        range = λ e. omega (arith, kind, e);
+        write = λ e. omega (arith, kind, e);
+        gate = λ e. omega (arith, kind, e);
+        capture = λ e. omega (arith, kind, e);
+        row = λ e. omega (arith, kind, e);
+        end = λ e. omega (arith, kind, e);
+      } in
+          told same w.bounds-is w.sequencer-is w.code-is w.marks-is w.clocks-is w.known-is w.values-is w.masks-is w.gates-is w.extents-is w.number-is
+          (none_reached lent job 21 (storeless none) (no_kind lent c.loop-code.counts none c.loop-code.masks job.state))
+    ] in
+    let ends : c.match-kind.number ≡ 0 → byte_at rest 0 ≡ 0 = λ z. elim c.then-number-ne0.branch [
+      | then-number-ne0-via-then-number-ne0 w ↦ absurd (w.if-number-ne0.true z)
+      | then-number-ne0-via-else-number-ne0+then-kind-eq-END w ↦ sym kind_is ∙ w.if-kind-eq-END.true
+    ] in
     let answer_is : c.read_at.result ≡ read_at c.match-kind.number c.loop-code.at job =
     c.read_at.ensures
     ∙ ap (λ (s : State). read_at c.match-kind.number c.loop-code.at (job_of c.loop-code.counts c.match-kind.bounds s
     (log_of c.match-kind.clocks c.match-kind.known c.match-kind.values) (probes_of c.match-kind.masks c.match-kind.gates c.match-kind.extents)))
     c.state_from-state.ensures
     ∙ ap (λ (j : Job). read_at c.match-kind.number c.loop-code.at j) (reached.kept ends) in
-    let counted_within : CountsWithin max_bytes job.probes = omega (arith, c.loop-code.invariant.2 event, c.loop-code.invariant.0, c.requires) in
+    let counted_within : CountsWithin max_bytes job.probes = λ event. omega (arith, c.loop-code.invariant.2 event, c.loop-code.invariant.0, c.requires) in
     let e = answer_is in
     let t = reached.tested in
     let fuel = c.loop-code.invariant.3 in
@@ -134,12 +129,13 @@ returns-then-number-ne0 c =
     λ z. clear rest c.loop-code.counts c.loop-code.masks job.state (sym t ∙ none z) in
     record {
       answered = e
-          ∙ ⊎_elim
-          (λ w. ap (λ (n : ℕ). read_at n c.loop-code.at job) t
-          ∙ read_fault input c.loop-code.at job x fuel.0 c.loop-code.invariant.0 fuel.1 (λ z. w.taken (t ∙ z)) fuel.2)
-          (λ w. ap (λ (n : ℕ). read_at n c.loop-code.at job) w.0.left
-          ∙ read_end input c.loop-code.at job x fuel.0 c.loop-code.invariant.0 fuel.1 (sym t ∙ w.0.left) (ends w.0.left) fuel.2)
-          c.then-number-ne0.branch;
+          ∙ elim c.then-number-ne0.branch [
+            | then-number-ne0-via-then-number-ne0 w ↦ ap (λ (n : ℕ). read_at n c.loop-code.at job) t
+                ∙ read_fault input c.loop-code.at job x fuel.0 c.loop-code.invariant.0 fuel.1 (λ z. w.if-number-ne0.true (t ∙ z)) fuel.2
+            | then-number-ne0-via-else-number-ne0+then-kind-eq-END w ↦ let zero = w.if-number-ne0.false in
+                ap (λ (n : ℕ). read_at n c.loop-code.at job) zero
+                ∙ read_end input c.loop-code.at job x fuel.0 c.loop-code.invariant.0 fuel.1 (sym t ∙ zero) (ends zero) fuel.2
+          ];
       sound = subst (λ (r : JobRead). Sound r.job) (sym e) (going_sound job c.loop-code.invariant.1 counted_within);
       started = λ z. subst (λ (r : JobRead). Started r.job) (sym e)
           (started job c.loop-code.invariant.1 (end_started rest job.state (passed z).end (ends (none z))));
@@ -159,47 +155,38 @@ loop-code-preserved c =
     let m = c.match-kind in
     job_of c.loop-code.counts m.bounds (state_from m.sequencer m.code m.marks) (log_of m.clocks m.known m.values)
     (probes_of m.masks m.gates m.extents) in
-    let reached : Reached rest job c.match-kind.number after =
     let same = from input c.loop-code.at in
     let kind = sym c.byte_at-kind.ensures in
     let size = c.loop-code.invariant.1.size in
-    ⊎_elim
-    (λ w. told same w.6 w.7 w.8 w.9 w.10 w.11 w.12 w.13 w.14 w.15 w.16
-    (state_reached lent job _ 4 (kind ∙ w.0.keys1) (omega arith) of_state_4 (w.4.ensures.tested c.loop-code.masks) w.4.ensures.state))
-    (⊎_elim
-    (λ w. told same w.4 w.5 w.6 w.7 w.8 w.9 w.10 w.11 w.12 w.13 w.14
-    (range_reached lent job _ (kind ∙ w.0.keys2) w.3.ensures))
-    (⊎_elim
-    (λ w. told same w.6 w.7 w.8 w.9 w.10 w.11 w.12 w.13 w.14 w.15 w.16
-    (state_reached lent job _ 2 (kind ∙ w.0.keys3) (omega arith) of_state_2 (w.4.ensures.tested c.loop-code.masks) w.4.ensures.state))
-    (⊎_elim
-    (λ w. told same w.8 w.9 w.10 w.11 w.12 w.13 w.14 w.15 w.16 w.17 w.18
-    (gate_reached lent job _ w.2.ensures.0 (kind ∙ w.0.keys4) _ refl w.5.ensures))
-    (⊎_elim
-    (λ w. told same w.10 w.11 w.12 w.13 w.14 w.15 w.16 w.17 w.18 w.19 w.20
-    (capture_reached lent job _ w.2.ensures.0 (kind ∙ w.0.keys5) (omega (arith, w.2.ensures.1, size.gates))
-    (omega (arith, w.2.ensures.1, size.extents)) _ _ refl w.6.ensures))
-    (⊎_elim
-    (λ w. told same w.7 w.8 w.9 w.10 w.11 w.12 w.13 w.14 w.15 w.16 w.17
-    (row_reached lent job _ (kind ∙ w.0.keys6) w.5.ensures))
-    (⊎_elim
-    (λ w. told same w.3 w.4 w.5 w.6 w.7 w.8 w.9 w.10 w.11 w.12 w.13
-    (end_reached lent job _ (kind ∙ w.0.keys7) (w.2.ensures c.loop-code.code c.loop-code.marks)))
-    (λ w. let n = w.0.rest in
-    let late = n.0.0.0 in
-    let other : (k : ℕ) → (c.byte_at-kind.result ≡ k → ⊥) → byte_at lent 0 ≡ k → ⊥ = λ k h e. h (sym kind ∙ e) in
-    let none : NoKind (byte_at lent 0) = record {
-      family = other 4 late.0.0.0.1;
-      range = other 3 late.0.0.1;
-      write = other 2 late.0.1;
-      gate = other 6 late.1;
-      capture = other 5 n.0.0.1;
-      row = other 1 n.0.1;
-      end = other 0 n.1;
-    } in
-    told same w.1 w.2 w.3 w.4 w.5 w.6 w.7 w.8 w.9 w.10 w.11
-    (none_reached lent job 21 (storeless none) (no_kind lent c.loop-code.counts none c.loop-code.masks job.state)))))))))
-    c.match-kind.branch in
+    let reached : Reached rest job c.match-kind.number after =
+    elim c.match-kind.branch [
+      | in-4 w ↦ told same w.bounds-is w.sequencer-is w.code-is w.marks-is w.clocks-is w.known-is w.values-is w.masks-is w.gates-is w.extents-is w.number-is
+          (state_reached lent job _ 4 (kind ∙ w.in-4.is) (omega arith) of_state_4 (w.read_family-read.ensures.tested c.loop-code.masks)
+          w.read_family-read.ensures.state)
+      | in-3 w ↦ told same w.bounds-is w.sequencer-is w.code-is w.marks-is w.clocks-is w.known-is w.values-is w.masks-is w.gates-is w.extents-is w.number-is (range_reached lent job _ (kind ∙ w.in-3.is) w.read_range-number.ensures)
+      | in-2 w ↦ told same w.bounds-is w.sequencer-is w.code-is w.marks-is w.clocks-is w.known-is w.values-is w.masks-is w.gates-is w.extents-is w.number-is
+          (state_reached lent job _ 2 (kind ∙ w.in-2.is) (omega arith) of_state_2 (w.read_write-read.ensures.tested c.loop-code.masks)
+          w.read_write-read.ensures.state)
+      | in-6 w ↦ told same w.bounds-is w.sequencer-is w.code-is w.marks-is w.clocks-is w.known-is w.values-is w.masks-is w.gates-is w.extents-is w.number-is (gate_reached lent job _ w.event_in-event.ensures.value (kind ∙ w.in-6.is) _ refl w.read_gate-read.ensures)
+      | in-5 w ↦ let event = w.event_in-event-in-5.ensures in
+          told same w.bounds-is w.sequencer-is w.code-is w.marks-is w.clocks-is w.known-is w.values-is w.masks-is w.gates-is w.extents-is w.number-is
+          (capture_reached lent job _ event.value (kind ∙ w.in-5.is) (omega (arith, event.upper_bound, size.gates))
+          (omega (arith, event.upper_bound, size.extents)) _ _ refl w.read_capture-read.ensures)
+      | in-1 w ↦ told same w.bounds-is w.sequencer-is w.code-is w.marks-is w.clocks-is w.known-is w.values-is w.masks-is w.gates-is w.extents-is w.number-is (row_reached lent job _ (kind ∙ w.in-1.is) w.read_row-read.ensures)
+      | in-0 w ↦ told same w.bounds-is w.sequencer-is w.code-is w.marks-is w.clocks-is w.known-is w.values-is w.masks-is w.gates-is w.extents-is w.number-is
+          (end_reached lent job _ (kind ∙ w.in-0.is) (w.read_end-number.ensures c.loop-code.code c.loop-code.marks))
+      | in_default w ↦ let none : NoKind (byte_at lent 0) = record {
+        family = λ e. omega (arith, kind, e);
+        range = λ e. omega (arith, kind, e);
+        write = λ e. omega (arith, kind, e);
+        gate = λ e. omega (arith, kind, e);
+        capture = λ e. omega (arith, kind, e);
+        row = λ e. omega (arith, kind, e);
+        end = λ e. omega (arith, kind, e);
+      } in
+          told same w.bounds-is w.sequencer-is w.code-is w.marks-is w.clocks-is w.known-is w.values-is w.masks-is w.gates-is w.extents-is w.number-is
+          (none_reached lent job 21 (storeless none) (no_kind lent c.loop-code.counts none c.loop-code.masks job.state))
+    ] in
     let clear_of : Clear rest c.loop-code.counts c.loop-code.masks job.state =
     clear rest c.loop-code.counts c.loop-code.masks job.state (sym reached.tested ∙ c.if-number-ne0.false) in
     let body_is : c.kind_of-length.result.body ≡ (kind_of c.loop-code.counts (byte_at rest 0)).body =
@@ -218,7 +205,7 @@ loop-code-preserved c =
     let e : j' ≡ after_record rest job = ap (with_counts after) counts ∙ reached.stored none in
     let next =
     read_next s at job (from_start s) fuel.0 c.loop-code.invariant.0 fuel.1 (sym reached.tested ∙ none)
-    (λ z. eqb-false c.byte_at-kind.result 0 c.if-kind-eq-END.false (kind_is ∙ z)) fuel.2 in (
+    (λ z. c.if-kind-eq-END.false (kind_is ∙ z)) fuel.2 in (
       within,
       subst Going (sym e) (going_on rest job clear_of c.loop-code.invariant.1),
       subst (λ (j : Job). CountsWithin (at + (1 + c.kind_of-length.result.body)) j.probes) (sym e)
