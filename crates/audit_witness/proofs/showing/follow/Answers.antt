@@ -9,6 +9,7 @@ use Rattle.event_log.proofs.Columns.{Room}
 use Rattle.script.specs.Script.{Script, script_of, fetch_at}
 use Rattle.audit_verdict.specs.Witness.{max_shown}
 use Rattle.audit_witness.proofs.Making.{never_refused, making_begins, making_over, making_next, inside}
+use Rattle.audit_witness.proofs.showing.follow.Goals.{then-at-place, else-at-place+in_default}
 use Rattle.audit_witness.proofs.showing.follow.Goals as goal
 
 pub loop-at-init : goal.loop-at-init
@@ -45,9 +46,9 @@ pub returns : goal.returns
 returns c =
     let lent : Log = let a = c.args in log_of a.clocks.now a.known.now a.values.now in
     let room : Room max_shown lent = let p = c.requires in record { clocks = p.2; known = p.3; values = p.4 } in
-    let arrives : (c.if-at-place.new ≡ c.loop-at.made) × (c.loop-at.at ≡ c.args.place.0) =
-    ⊎_elim (λ w. (w.1, w.0.taken))
-    (λ w. absurd (never_refused c.loop-at.invariant.walk w.0.left _ (sym w.1.ensures.answered ∙ w.3.given.1)))
-    c.if-at-place.branch in
-    let a = arrives in
-    making_over c.loop-at.invariant room a.1 a.0 c.put_row.ensures
+    let arrives : (c.if-at-place.last ≡ c.loop-at.made) × (c.loop-at.at ≡ c.args.place.0) = elim c.if-at-place.branch [
+      | then-at-place w ↦ (w.last-is, w.if-at-place.true)
+      | else-at-place+in_default w ↦ absurd
+          (never_refused c.loop-at.invariant.walk w.if-at-place.false _ (sym w.fetch-found.ensures.answered ∙ w.in_default.is))
+    ] in
+    making_over c.loop-at.invariant room arrives.1 arrives.0 c.put_row.ensures

@@ -21,19 +21,17 @@ returns-then-clocks-lt-MAX_SHOWN c =
     let fits_so : (let a = c.args in input_fits (script_of a.family a.code.now a.marks.now a.entry.0) a.ranges.now) ≡ true = else_fits _ _ c.audit-verdict.ensures (sym c.is_input.ensures ∙ c.if-is_input.false) in
     let columns = lent in
     refuses_room _ _ columns fits_so
-    (⊎_elim (λ w. few_clocks columns w.taken)
-    (⊎_elim (λ w. few_known columns (ltb-true _ _ w.1.taken)) (λ w. few_values columns (ltb-true _ _ w.2.taken)))
-    c.then-clocks-lt-MAX_SHOWN.came)
+    (⊎_elim (few_clocks columns) (⊎_elim (λ w. few_known columns w.1) (λ w. few_values columns w.2)) c.then-clocks-lt-MAX_SHOWN.either)
 
 pub follow-made-requires : goal.follow-made-requires
 follow-made-requires c =
     let lent : Log = let a = c.args in log_of a.clocks.now a.known.now a.values.now in
     let fits_so : (let a = c.args in input_fits (script_of a.family a.code.now a.marks.now a.entry.0) a.ranges.now) ≡ true = else_fits _ _ c.audit-verdict.ensures (sym c.is_input.ensures ∙ c.if-is_input.false) in
     let long : Room max_shown lent = record {
-  clocks = c.if-clocks-lt-MAX_SHOWN.false;
-  known = ltb-false _ _ c.if-known-lt-MAX_SHOWN.false;
-  values = ltb-false _ _ c.if-values-lt-MAX_SHOWN.false;
-} in
+      clocks = c.if-clocks-lt-MAX_SHOWN.false;
+      known = c.if-known-lt-MAX_SHOWN.false;
+      values = c.if-values-lt-MAX_SHOWN.false;
+    } in
     let l = long in
     (fits_so, c.place_of-place.ensures ∙ ap place_of c.audit-verdict.ensures.answered, l.clocks, l.known, l.values)
 
@@ -42,8 +40,8 @@ returns c =
     let lent : Log = let a = c.args in log_of a.clocks.now a.known.now a.values.now in
     let fits_so : (let a = c.args in input_fits (script_of a.family a.code.now a.marks.now a.entry.0) a.ranges.now) ≡ true = else_fits _ _ c.audit-verdict.ensures (sym c.is_input.ensures ∙ c.if-is_input.false) in
     let long : Room max_shown lent = record {
-  clocks = c.if-clocks-lt-MAX_SHOWN.false;
-  known = ltb-false _ _ c.if-known-lt-MAX_SHOWN.false;
-  values = ltb-false _ _ c.if-values-lt-MAX_SHOWN.false;
-} in
+      clocks = c.if-clocks-lt-MAX_SHOWN.false;
+      known = c.if-known-lt-MAX_SHOWN.false;
+      values = c.if-values-lt-MAX_SHOWN.false;
+    } in
     answers _ _ _ fits_so long c.audit-verdict.ensures c.follow-made.ensures

@@ -97,7 +97,7 @@ returns-then-number-ne0 c =
       | in-1 w ↦ told same w.bounds-is w.sequencer-is w.code-is w.marks-is w.clocks-is w.known-is w.values-is w.masks-is w.gates-is w.extents-is w.number-is (row_reached lent job _ (kind ∙ w.in-1.is) w.read_row-read.ensures)
       | in-0 w ↦ told same w.bounds-is w.sequencer-is w.code-is w.marks-is w.clocks-is w.known-is w.values-is w.masks-is w.gates-is w.extents-is w.number-is
           (end_reached lent job _ (kind ∙ w.in-0.is) (w.read_end-number.ensures c.loop-code.code c.loop-code.marks))
-      | in_default w ↦ let none : NoKind (byte_at lent 0) = record {
+      | in_default w ↦ let unnamed : NoKind (byte_at lent 0) = record {
         family = λ e. omega (arith, kind, e);
         range = λ e. omega (arith, kind, e);
         write = λ e. omega (arith, kind, e);
@@ -107,7 +107,7 @@ returns-then-number-ne0 c =
         end = λ e. omega (arith, kind, e);
       } in
           told same w.bounds-is w.sequencer-is w.code-is w.marks-is w.clocks-is w.known-is w.values-is w.masks-is w.gates-is w.extents-is w.number-is
-          (none_reached lent job 21 (storeless none) (no_kind lent c.loop-code.counts none c.loop-code.masks job.state))
+          (none_reached lent job 21 (storeless unnamed) (no_kind lent c.loop-code.counts unnamed c.loop-code.masks job.state))
     ] in
     let ends : c.match-kind.number ≡ 0 → byte_at rest 0 ≡ 0 = λ z. elim c.then-number-ne0.branch [
       | then-number-ne0-via-then-number-ne0 w ↦ absurd (w.if-number-ne0.true z)
@@ -175,7 +175,7 @@ loop-code-preserved c =
       | in-1 w ↦ told same w.bounds-is w.sequencer-is w.code-is w.marks-is w.clocks-is w.known-is w.values-is w.masks-is w.gates-is w.extents-is w.number-is (row_reached lent job _ (kind ∙ w.in-1.is) w.read_row-read.ensures)
       | in-0 w ↦ told same w.bounds-is w.sequencer-is w.code-is w.marks-is w.clocks-is w.known-is w.values-is w.masks-is w.gates-is w.extents-is w.number-is
           (end_reached lent job _ (kind ∙ w.in-0.is) (w.read_end-number.ensures c.loop-code.code c.loop-code.marks))
-      | in_default w ↦ let none : NoKind (byte_at lent 0) = record {
+      | in_default w ↦ let unnamed : NoKind (byte_at lent 0) = record {
         family = λ e. omega (arith, kind, e);
         range = λ e. omega (arith, kind, e);
         write = λ e. omega (arith, kind, e);
@@ -185,7 +185,7 @@ loop-code-preserved c =
         end = λ e. omega (arith, kind, e);
       } in
           told same w.bounds-is w.sequencer-is w.code-is w.marks-is w.clocks-is w.known-is w.values-is w.masks-is w.gates-is w.extents-is w.number-is
-          (none_reached lent job 21 (storeless none) (no_kind lent c.loop-code.counts none c.loop-code.masks job.state))
+          (none_reached lent job 21 (storeless unnamed) (no_kind lent c.loop-code.counts unnamed c.loop-code.masks job.state))
     ] in
     let clear_of : Clear rest c.loop-code.counts c.loop-code.masks job.state =
     clear rest c.loop-code.counts c.loop-code.masks job.state (sym reached.tested ∙ c.if-number-ne0.false) in
