@@ -49,7 +49,8 @@ module _ (x : Script) (enable : Bool) (log : Log) {p : ℕ} {r : SlotRun} (g : G
     mode_then = ap (λ (t : SlotStep). t.slot.mode) performs
 
     -- and where it then goes on
-    pub going_then : mode_after action enable (elapsed_of action log r.place).finished ≡ Mode.Running → ((at after_step : ℕ) → ip_after action at after_step ≡ after_step)
+    pub going_then : mode_after action enable (elapsed_of action log r.place).finished ≡ Mode.Running
+        → ((at after_step : ℕ) → ip_after action at after_step ≡ after_step)
         → Going (p + n) (after_step (script_scene x enable log) r)
     unfolding perform_of
     going_then runs moves = record {

@@ -17,7 +17,8 @@ use Rattle.audit_verdict.specs.Witness.{actions_to}
 use Rattle.audit_verdict.specs.WorkedLogs.{WorkedLogs}
 
 pub starred : Starred
-unfolding audit_of script_fits ranges_fit by_family verdict_in fetch_of all_marked decode_of opcode_at wait_clocks can_release run_answer_of valid_log slot_run_for
+unfolding audit_of script_fits ranges_fit by_family verdict_in fetch_of all_marked decode_of opcode_at wait_clocks can_release run_answer_of valid_log
+    slot_run_for
     perform_of search_in has_reading
 starred = (
   refl,

@@ -29,5 +29,6 @@ module _ {family kind first second : ℕ} {old : List ℕ} {named : Named} {numb
   pub wide_encode : named ≡ Named.Wide → number ≡ wide_number family → reply ≡ unwritten_reply number → HwsqEncode family kind first second old old reply
   wide_encode k n told = from Named.Wide (sym e ∙ k) (told ∙ ap unwritten_reply n) refl
 
-  pub unknown_encode : named ≡ Named.Unknown → number ≡ unnamed_number family → reply ≡ unwritten_reply number → HwsqEncode family kind first second old old reply
+  pub unknown_encode : named ≡ Named.Unknown → number ≡ unnamed_number family → reply ≡ unwritten_reply number
+      → HwsqEncode family kind first second old old reply
   unknown_encode k n told = from Named.Unknown (sym e ∙ k) (told ∙ ap unwritten_reply n) refl

@@ -71,7 +71,8 @@ module _ (rest : List ℕ) (counts : Counts) (k : ℕ) (is : byte_at rest 0 ≡ 
   pub shape_refused : (shape ≡ 0 → ⊥) → (m : Masks) (s : State) → shape ≡ refusal_of rest counts m s
   unfolding refusal_of
   shape_refused h m s =
-      rw is (refused (is_unknown rest kind) (is_cut_short rest kind) (is_out_of_order counts.rank kind) (is_too_many kind) (first_of (own_tests rest counts m s)) h)
+      rw is (refused (is_unknown rest kind) (is_cut_short rest kind) (is_out_of_order counts.rank kind) (is_too_many kind)
+      (first_of (own_tests rest counts m s)) h)
 
   -- or is not
   module _ (fine : shape ≡ 0) where

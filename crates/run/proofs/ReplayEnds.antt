@@ -92,7 +92,8 @@ module _ (x : Scene) (slot : Slot) (flags : Flags) where
       clocked = slot_clocks x valid slot flags (full_steps x.family);
     }
 
-    answer_ends : (lent : ℕ) → new ≡ lent_after x slot flags old (run_answer_of x slot flags lent) → EndsRight x slot flags old new (run_answer_of x slot flags lent)
+    answer_ends : (lent : ℕ) → new ≡ lent_after x slot flags old (run_answer_of x slot flags lent)
+        → EndsRight x slot flags old new (run_answer_of x slot flags lent)
     answer_ends = answer_elim (λ (answer : RunAnswer). new ≡ lent_after x slot flags old answer → EndsRight x slot flags old new answer) (λ why l. tt) run_ends
 
 -- the defined answer, with its lent entries, is what a run promises

@@ -25,7 +25,8 @@ Clocked clocks r = left_of clocks log_start ≡ r.waits + r.ewaits + left_of clo
 
 module _ (x : Scene) where
   -- what every step keeps, every run keeps
-  pub slot_elim : (P : SlotRun → Type 0) → ((r : SlotRun) → P r → P (took_slot_step r (next_slot_step x r))) → (n : ℕ) (r : SlotRun) → P r → P (slot_run_for x n r)
+  pub slot_elim : (P : SlotRun → Type 0) → ((r : SlotRun) → P r → P (took_slot_step r (next_slot_step x r))) → (n : ℕ) (r : SlotRun) → P r
+      → P (slot_run_for x n r)
   unfolding slot_run_for
   slot_elim P step zero r h = h
   slot_elim P step (suc n) r h = slot_elim P step n (took_slot_step r (next_slot_step x r)) (step r h)

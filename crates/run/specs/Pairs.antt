@@ -61,7 +61,8 @@ pub record Pairs : Type 0 where
   pub first : (gone_at unread_log.clocks (steps_under two_ewaits unread_log 2).place ≡ 64) × (gone_at event_filled.clocks (steps_under two_ewaits event_filled 2
       ).place ≡ 0)
   -- so the second takes none before and 64 now, and ends where it did
-  pub second : (gone_at unread_log.clocks (steps_under two_ewaits unread_log 3).place ≡ 64) × (gone_at event_filled.clocks (steps_under two_ewaits event_filled 3
+  pub second : (gone_at unread_log.clocks (steps_under two_ewaits unread_log 3).place ≡ 64)
+      × (gone_at event_filled.clocks (steps_under two_ewaits event_filled 3
       ).place ≡ 64)
   -- neither run has an unfinished wait in the end, and both left the same state
   pub finished : Unfinished SlotName.A (steps_under two_ewaits unread_log 5) → ⊥

@@ -84,7 +84,9 @@ module _ (x : Scene) (slot : Slot) (flags : Flags) where
   slot_step_on p = slot_step_of x.family x.enable p.slot p.flags x.log p.place (fetch_of x.family x.code x.marks p.slot.ip.0)
 
   run_next : (n : ℕ) → is_running (run_to n).slot.mode ≡ true → run_to (suc n) ≡ took_slot_step (run_to n) (slot_step_from x (run_to n))
-  run_next n m = slot_snoc x n (slot_begun slot flags) ∙ ap (took_slot_step (run_to n)) (let e : next_slot_step x (run_to n) ≡ slot_step_from x (run_to n) = rw m refl in e)
+  run_next n m =
+      slot_snoc x n (slot_begun slot flags)
+      ∙ ap (took_slot_step (run_to n)) (let e : next_slot_step x (run_to n) ≡ slot_step_from x (run_to n) = rw m refl in e)
 
   -- a run that has settled has come to its end
   run_settled : (n : ℕ) → Settled x (run_to n) → n ≤ full_steps x.family → run_to n ≡ full_slot_run x slot flags
@@ -118,7 +120,8 @@ module _ (x : Scene) (slot : Slot) (flags : Flags) where
         (omega arith, omega arith)
 
     -- one step of the loop, which holds the run's progress
-    module _ (n : ℕ) (p : Progress) (is : p ≡ progress_of (run_to n)) (runs_on : is_running p.slot.mode ≡ true) (t : SlotStep) (taken : t ≡ slot_step_on p) where
+    module _ (n : ℕ) (p : Progress) (is : p ≡ progress_of (run_to n)) (runs_on : is_running p.slot.mode ≡ true) (t : SlotStep)
+        (taken : t ≡ slot_step_on p) where
       running : is_running (run_to n).slot.mode ≡ true
       running = rw is at runs_on
 
@@ -128,7 +131,8 @@ module _ (x : Scene) (slot : Slot) (flags : Flags) where
       -- one that fetched nothing was stopped, and so is every later one
       pub run_stopped : fetched_by t.effect ≡ 0 → n ≤ full_steps x.family → run_to n ≡ full_slot_run x slot flags
       run_stopped none =
-          let next : next_slot_step x (run_to n) ≡ t = (let e : next_slot_step x (run_to n) ≡ slot_step_from x (run_to n) = rw running refl in e) ∙ sym taken_is in
+          let next : next_slot_step x (run_to n) ≡ t =
+          (let e : next_slot_step x (run_to n) ≡ slot_step_from x (run_to n) = rw running refl in e) ∙ sym taken_is in
           run_settled n (ap (λ (u : SlotStep). fetched_by u.effect) next ∙ none)
 
       pub progress_after_lem : progress_after p t ≡ progress_of (run_to (suc n))

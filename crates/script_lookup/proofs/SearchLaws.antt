@@ -103,7 +103,8 @@ module _ (ranges : List ℕ) (address : ℕ) where
       (λ _. before)
       (λ some. found_listed left (low_after ranges address low n) (middle_of n) (looked_at ranges address (low + middle_of n) found)
       (fits (leb (range_first ranges (low + middle_of n)) address))
-      (λ e. by (eqb-false n 0 some) (or_cases (within (range_first ranges (low + middle_of n)) address (range_last ranges (low + middle_of n))) found.listed e)))
+      (λ e. by (eqb-false n 0 some)
+      (or_cases (within (range_first ranges (low + middle_of n)) address (range_last ranges (low + middle_of n))) found.listed e)))
     where
       fits : (above : Bool) → 2 * (cond above (low + (n - middle_of n)) low + middle_of n) ≤ length ranges
       fits true = omega (arith, h)
@@ -146,14 +147,16 @@ module _ (ranges : List ℕ) (address : ℕ) where
         go : (n ≡ 0 → ⊥) → (above : Bool) → leb (range_first ranges (low + middle_of n)) address ≡ above
             → ((low' n' : ℕ) (found' : Lookup) → n' ≤ left → low' ≤ i + 1 → i + 1 ≤ low' + n' → 2 * (low' + n') ≤ length ranges
             → (low' ≡ i + 1 → found'.listed ≡ true) → (search_in left ranges address low' n' found').listed ≡ true)
-            → (search_in left ranges address (cond above (low + (n - middle_of n)) low) (middle_of n) (looked_at ranges address (low + middle_of n) found)).listed ≡ true
+            → (search_in left ranges address (cond above (low + (n - middle_of n)) low) (middle_of n)
+            (looked_at ranges address (low + middle_of n) found)).listed ≡ true
         go some true e later =
             let reached = leb-true (range_first ranges (low + middle_of n)) address e in
             let at_most = not_below (low + middle_of n) (omega (arith, t, some)) reached in
             later (low + (n - middle_of n)) (middle_of n) (looked_at ranges address (low + middle_of n) found)
             (omega (arith, enough, some)) (omega (arith, at_most)) (omega (arith, u)) (omega (arith, t))
             (λ same. let here : low + middle_of n ≡ i = omega (arith, same, at_most) in
-            rw (inside (range_first ranges (low + middle_of n)) address (range_last ranges (low + middle_of n)) reached (omega (arith, ap (range_last ranges) here, h.last))) refl)
+            rw (inside (range_first ranges (low + middle_of n)) address (range_last ranges (low + middle_of n)) reached
+            (omega (arith, ap (range_last ranges) here, h.last))) refl)
         go some false e later =
             let missed = leb-false (range_first ranges (low + middle_of n)) address e in
             let below = not_above (low + middle_of n) (omega (arith, t, some)) missed in

@@ -60,7 +60,8 @@ loop-instruction-preserved c =
     let i = rw c.in-Instruction.is at c.fetch-found.ensures.inside in
     (i.0, omega (arith, i.2, length-take (code_size x.family) x.code)) in
     let known : Knowledge = c.loop-instruction.known in
-    let judged : c.judge-judgement.result ≡ judge_of x.family ranges (action_of instruction) known = c.judge-judgement.ensures ∙ ap (λ (a : Action). judge_of x.family ranges a known) c.action_of-action.ensures in
+    let judged : c.judge-judgement.result ≡ judge_of x.family ranges (action_of instruction) known =
+    c.judge-judgement.ensures ∙ ap (λ (a : Action). judge_of x.family ranges a known) c.action_of-action.ensures in
     let next : c.know_next-known.result ≡ know_next (action_of instruction) known
     = c.know_next-known.ensures ∙ ap (λ (a : Action). know_next a known) c.action_of-action.ensures in
     let fine = sym judged ∙ c.in-Fine.is in
@@ -85,7 +86,8 @@ returns-in-Exit c =
     let i = rw c.in-Instruction.is at c.fetch-found.ensures.inside in
     (i.0, omega (arith, i.2, length-take (code_size x.family) x.code)) in
     let known : Knowledge = c.loop-instruction.known in
-    let judged : c.judge-judgement.result ≡ judge_of x.family ranges (action_of instruction) known = c.judge-judgement.ensures ∙ ap (λ (a : Action). judge_of x.family ranges a known) c.action_of-action.ensures in
+    let judged : c.judge-judgement.result ≡ judge_of x.family ranges (action_of instruction) known =
+    c.judge-judgement.ensures ∙ ap (λ (a : Action). judge_of x.family ranges a known) c.action_of-action.ensures in
     going_exit c.loop-instruction.invariant instruction its_size fetched lies.0 lies.1 (sym judged ∙ c.in-Exit.is)
 
 pub returns-in-Bad : goal.returns-in-Bad
@@ -100,5 +102,6 @@ returns-in-Bad c =
     let i = rw c.in-Instruction.is at c.fetch-found.ensures.inside in
     (i.0, omega (arith, i.2, length-take (code_size x.family) x.code)) in
     let known : Knowledge = c.loop-instruction.known in
-    let judged : c.judge-judgement.result ≡ judge_of x.family ranges (action_of instruction) known = c.judge-judgement.ensures ∙ ap (λ (a : Action). judge_of x.family ranges a known) c.action_of-action.ensures in
+    let judged : c.judge-judgement.result ≡ judge_of x.family ranges (action_of instruction) known =
+    c.judge-judgement.ensures ∙ ap (λ (a : Action). judge_of x.family ranges a known) c.action_of-action.ensures in
     going_bad c.loop-instruction.invariant instruction its_size fetched lies.0 lies.1 c.in-Bad.fault (sym judged ∙ c.in-Bad.is)

@@ -18,7 +18,8 @@ returns-then-is_input c =
 pub returns-then-clocks-lt-MAX_SHOWN : goal.returns-then-clocks-lt-MAX_SHOWN
 returns-then-clocks-lt-MAX_SHOWN c =
     let lent : Log = let a = c.args in log_of a.clocks.now a.known.now a.values.now in
-    let fits_so : (let a = c.args in input_fits (script_of a.family a.code.now a.marks.now a.entry.0) a.ranges.now) ≡ true = else_fits _ _ c.audit-verdict.ensures (sym c.is_input.ensures ∙ c.if-is_input.false) in
+    let fits_so : (let a = c.args in input_fits (script_of a.family a.code.now a.marks.now a.entry.0) a.ranges.now) ≡ true =
+    else_fits _ _ c.audit-verdict.ensures (sym c.is_input.ensures ∙ c.if-is_input.false) in
     let columns = lent in
     refuses_room _ _ columns fits_so
     (⊎_elim (few_clocks columns) (⊎_elim (λ w. few_known columns w.1) (λ w. few_values columns w.2)) c.then-clocks-lt-MAX_SHOWN.either)
@@ -26,7 +27,8 @@ returns-then-clocks-lt-MAX_SHOWN c =
 pub follow-made-requires : goal.follow-made-requires
 follow-made-requires c =
     let lent : Log = let a = c.args in log_of a.clocks.now a.known.now a.values.now in
-    let fits_so : (let a = c.args in input_fits (script_of a.family a.code.now a.marks.now a.entry.0) a.ranges.now) ≡ true = else_fits _ _ c.audit-verdict.ensures (sym c.is_input.ensures ∙ c.if-is_input.false) in
+    let fits_so : (let a = c.args in input_fits (script_of a.family a.code.now a.marks.now a.entry.0) a.ranges.now) ≡ true =
+    else_fits _ _ c.audit-verdict.ensures (sym c.is_input.ensures ∙ c.if-is_input.false) in
     let long : Room max_shown lent = record {
       clocks = c.if-clocks-lt-MAX_SHOWN.false;
       known = c.if-known-lt-MAX_SHOWN.false;
@@ -38,7 +40,8 @@ follow-made-requires c =
 pub returns : goal.returns
 returns c =
     let lent : Log = let a = c.args in log_of a.clocks.now a.known.now a.values.now in
-    let fits_so : (let a = c.args in input_fits (script_of a.family a.code.now a.marks.now a.entry.0) a.ranges.now) ≡ true = else_fits _ _ c.audit-verdict.ensures (sym c.is_input.ensures ∙ c.if-is_input.false) in
+    let fits_so : (let a = c.args in input_fits (script_of a.family a.code.now a.marks.now a.entry.0) a.ranges.now) ≡ true =
+    else_fits _ _ c.audit-verdict.ensures (sym c.is_input.ensures ∙ c.if-is_input.false) in
     let long : Room max_shown lent = record {
       clocks = c.if-clocks-lt-MAX_SHOWN.false;
       known = c.if-known-lt-MAX_SHOWN.false;

@@ -1,5 +1,4 @@
 use mathlib.Core.Path.{sym, ◌∙◌}
-use borrow.Author.Tests.{not-true, not-false}
 use Rattle.host_access.specs.Inside.{write_outcome}
 use Rattle.host_access.proofs.access.write_outcome.Goals as goal
 

@@ -85,16 +85,19 @@ returns-then-number-ne0 c =
       | in-4 w ↦ told same w.bounds-is w.sequencer-is w.code-is w.marks-is w.clocks-is w.known-is w.values-is w.masks-is w.gates-is w.extents-is w.number-is
           (state_reached lent job _ 4 (kind ∙ w.in-4.is) (omega arith) of_state_4 (w.read_family-read.ensures.tested c.loop-code.masks)
           w.read_family-read.ensures.state)
-      | in-3 w ↦ told same w.bounds-is w.sequencer-is w.code-is w.marks-is w.clocks-is w.known-is w.values-is w.masks-is w.gates-is w.extents-is w.number-is (range_reached lent job _ (kind ∙ w.in-3.is) w.read_range-number.ensures)
+      | in-3 w ↦ told same w.bounds-is w.sequencer-is w.code-is w.marks-is w.clocks-is w.known-is w.values-is w.masks-is w.gates-is w.extents-is
+          w.number-is (range_reached lent job _ (kind ∙ w.in-3.is) w.read_range-number.ensures)
       | in-2 w ↦ told same w.bounds-is w.sequencer-is w.code-is w.marks-is w.clocks-is w.known-is w.values-is w.masks-is w.gates-is w.extents-is w.number-is
           (state_reached lent job _ 2 (kind ∙ w.in-2.is) (omega arith) of_state_2 (w.read_write-read.ensures.tested c.loop-code.masks)
           w.read_write-read.ensures.state)
-      | in-6 w ↦ told same w.bounds-is w.sequencer-is w.code-is w.marks-is w.clocks-is w.known-is w.values-is w.masks-is w.gates-is w.extents-is w.number-is (gate_reached lent job _ w.event_in-event.ensures.value (kind ∙ w.in-6.is) _ refl w.read_gate-read.ensures)
+      | in-6 w ↦ told same w.bounds-is w.sequencer-is w.code-is w.marks-is w.clocks-is w.known-is w.values-is w.masks-is w.gates-is w.extents-is
+          w.number-is (gate_reached lent job _ w.event_in-event.ensures.value (kind ∙ w.in-6.is) _ refl w.read_gate-read.ensures)
       | in-5 w ↦ let event = w.event_in-event-in-5.ensures in
           told same w.bounds-is w.sequencer-is w.code-is w.marks-is w.clocks-is w.known-is w.values-is w.masks-is w.gates-is w.extents-is w.number-is
           (capture_reached lent job _ event.value (kind ∙ w.in-5.is) (omega (arith, event.upper_bound, size.gates))
           (omega (arith, event.upper_bound, size.extents)) _ _ refl w.read_capture-read.ensures)
-      | in-1 w ↦ told same w.bounds-is w.sequencer-is w.code-is w.marks-is w.clocks-is w.known-is w.values-is w.masks-is w.gates-is w.extents-is w.number-is (row_reached lent job _ (kind ∙ w.in-1.is) w.read_row-read.ensures)
+      | in-1 w ↦ told same w.bounds-is w.sequencer-is w.code-is w.marks-is w.clocks-is w.known-is w.values-is w.masks-is w.gates-is w.extents-is
+          w.number-is (row_reached lent job _ (kind ∙ w.in-1.is) w.read_row-read.ensures)
       | in-0 w ↦ told same w.bounds-is w.sequencer-is w.code-is w.marks-is w.clocks-is w.known-is w.values-is w.masks-is w.gates-is w.extents-is w.number-is
           (end_reached lent job _ (kind ∙ w.in-0.is) (w.read_end-number.ensures c.loop-code.code c.loop-code.marks))
       | in_default w ↦ let unnamed : NoKind (byte_at lent 0) = record {
@@ -163,16 +166,19 @@ loop-code-preserved c =
       | in-4 w ↦ told same w.bounds-is w.sequencer-is w.code-is w.marks-is w.clocks-is w.known-is w.values-is w.masks-is w.gates-is w.extents-is w.number-is
           (state_reached lent job _ 4 (kind ∙ w.in-4.is) (omega arith) of_state_4 (w.read_family-read.ensures.tested c.loop-code.masks)
           w.read_family-read.ensures.state)
-      | in-3 w ↦ told same w.bounds-is w.sequencer-is w.code-is w.marks-is w.clocks-is w.known-is w.values-is w.masks-is w.gates-is w.extents-is w.number-is (range_reached lent job _ (kind ∙ w.in-3.is) w.read_range-number.ensures)
+      | in-3 w ↦ told same w.bounds-is w.sequencer-is w.code-is w.marks-is w.clocks-is w.known-is w.values-is w.masks-is w.gates-is w.extents-is
+          w.number-is (range_reached lent job _ (kind ∙ w.in-3.is) w.read_range-number.ensures)
       | in-2 w ↦ told same w.bounds-is w.sequencer-is w.code-is w.marks-is w.clocks-is w.known-is w.values-is w.masks-is w.gates-is w.extents-is w.number-is
           (state_reached lent job _ 2 (kind ∙ w.in-2.is) (omega arith) of_state_2 (w.read_write-read.ensures.tested c.loop-code.masks)
           w.read_write-read.ensures.state)
-      | in-6 w ↦ told same w.bounds-is w.sequencer-is w.code-is w.marks-is w.clocks-is w.known-is w.values-is w.masks-is w.gates-is w.extents-is w.number-is (gate_reached lent job _ w.event_in-event.ensures.value (kind ∙ w.in-6.is) _ refl w.read_gate-read.ensures)
+      | in-6 w ↦ told same w.bounds-is w.sequencer-is w.code-is w.marks-is w.clocks-is w.known-is w.values-is w.masks-is w.gates-is w.extents-is
+          w.number-is (gate_reached lent job _ w.event_in-event.ensures.value (kind ∙ w.in-6.is) _ refl w.read_gate-read.ensures)
       | in-5 w ↦ let event = w.event_in-event-in-5.ensures in
           told same w.bounds-is w.sequencer-is w.code-is w.marks-is w.clocks-is w.known-is w.values-is w.masks-is w.gates-is w.extents-is w.number-is
           (capture_reached lent job _ event.value (kind ∙ w.in-5.is) (omega (arith, event.upper_bound, size.gates))
           (omega (arith, event.upper_bound, size.extents)) _ _ refl w.read_capture-read.ensures)
-      | in-1 w ↦ told same w.bounds-is w.sequencer-is w.code-is w.marks-is w.clocks-is w.known-is w.values-is w.masks-is w.gates-is w.extents-is w.number-is (row_reached lent job _ (kind ∙ w.in-1.is) w.read_row-read.ensures)
+      | in-1 w ↦ told same w.bounds-is w.sequencer-is w.code-is w.marks-is w.clocks-is w.known-is w.values-is w.masks-is w.gates-is w.extents-is
+          w.number-is (row_reached lent job _ (kind ∙ w.in-1.is) w.read_row-read.ensures)
       | in-0 w ↦ told same w.bounds-is w.sequencer-is w.code-is w.marks-is w.clocks-is w.known-is w.values-is w.masks-is w.gates-is w.extents-is w.number-is
           (end_reached lent job _ (kind ∙ w.in-0.is) (w.read_end-number.ensures c.loop-code.code c.loop-code.marks))
       | in_default w ↦ let unnamed : NoKind (byte_at lent 0) = record {

@@ -21,7 +21,8 @@ returns-in_default c =
     let slot : Slot = c.slot_of-slot.result in
     let log : Log = let a = c.args in log_of a.clocks.now a.known.now a.values.now in
     let fetched : Decoded = let s = c.args.state in fetch_of s.family s.code s.marks slot.ip.0 in
-    let stepped : (t : SlotStep) (e : (let s = c.args.state in t ≡ slot_step_of s.family s.enable slot s.flags log c.args.at fetched)) → (let a = c.args in after_slot_step a.state a.name t ≡ advance_of a.state a.name log a.at) = λ t e.
+    let stepped : (t : SlotStep) (e : (let s = c.args.state in t ≡ slot_step_of s.family s.enable slot s.flags log c.args.at fetched))
+    → (let a = c.args in after_slot_step a.state a.name t ≡ advance_of a.state a.name log a.at) = λ t e.
     advance_slot_step _ _ _ _ slot c.slot_of-slot.ensures (sym c.can_run.ensures
     ∙ c.if-not-can_run.false) fetched refl t e in
     let s = c.args.state in
@@ -37,7 +38,8 @@ returns c =
     let slot : Slot = c.slot_of-slot.result in
     let log : Log = let a = c.args in log_of a.clocks.now a.known.now a.values.now in
     let fetched : Decoded = let s = c.args.state in fetch_of s.family s.code s.marks slot.ip.0 in
-    let stepped : (t : SlotStep) (e : (let s = c.args.state in t ≡ slot_step_of s.family s.enable slot s.flags log c.args.at fetched)) → (let a = c.args in after_slot_step a.state a.name t ≡ advance_of a.state a.name log a.at) = λ t e.
+    let stepped : (t : SlotStep) (e : (let s = c.args.state in t ≡ slot_step_of s.family s.enable slot s.flags log c.args.at fetched))
+    → (let a = c.args in after_slot_step a.state a.name t ≡ advance_of a.state a.name log a.at) = λ t e.
     advance_slot_step _ _ _ _ slot c.slot_of-slot.ensures (sym c.can_run.ensures
     ∙ c.if-not-can_run.false) fetched refl t e in
     let s = c.args.state in

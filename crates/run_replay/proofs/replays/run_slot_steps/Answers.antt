@@ -37,11 +37,14 @@ overflow_mul-used c =
     scene_for a.family a.code.now a.marks.now a.enable (log_of a.clocks.now a.known.now a.values.now) in
     let slot : Slot = c.begin-progress.result.slot in
     let flags : Flags = c.begin-progress.result.flags in
-    let begins : (slot ≡ c.args.slot) × (flags ≡ c.args.flags) = (ap (λ (p : Progress). p.slot) c.begin-progress.ensures, ap (λ (p : Progress). p.flags) c.begin-progress.ensures) in
+    let begins : (slot ≡ c.args.slot) × (flags ≡ c.args.flags) =
+    (ap (λ (p : Progress). p.slot) c.begin-progress.ensures, ap (λ (p : Progress). p.flags) c.begin-progress.ensures) in
     let ip_low : slot.ip.0 ≤ 512 = rw begins.0 c.requires.0 in
     let runs_on : is_running c.loop-steps.progress.slot.mode ≡ true = sym c.is_running.ensures ∙ c.if-not-is_running.false in
     let few : c.loop-steps.steps ≤ 512 = omega (arith, small _ c.code_size-limit.ensures.answered) in
-    let slot_step_fits_at : (c.loop-steps.progress.steps < 1024) × (c.loop-steps.progress.writes < 1024) × (c.loop-steps.progress.waited + c.take_slot_step-step.result.waited < 2 ^ 64) × (c.loop-steps.progress.searched + c.take_slot_step-step.result.searched < 2 ^ 64) =
+    let slot_step_fits_at : (c.loop-steps.progress.steps < 1024) × (c.loop-steps.progress.writes < 1024)
+    × (c.loop-steps.progress.waited + c.take_slot_step-step.result.waited < 2 ^ 64)
+    × (c.loop-steps.progress.searched + c.take_slot_step-step.result.searched < 2 ^ 64) =
     slot_step_fits scene slot flags ip_low c.requires.1
     c.loop-steps.steps c.loop-steps.progress c.loop-steps.invariant.0 runs_on c.take_slot_step-step.result c.take_slot_step-step.ensures few in
     omega (arith, slot_step_fits_at.1)
@@ -53,7 +56,8 @@ store-requires c =
     scene_for a.family a.code.now a.marks.now a.enable (log_of a.clocks.now a.known.now a.values.now) in
     let slot : Slot = c.begin-progress.result.slot in
     let flags : Flags = c.begin-progress.result.flags in
-    let begins : (slot ≡ c.args.slot) × (flags ≡ c.args.flags) = (ap (λ (p : Progress). p.slot) c.begin-progress.ensures, ap (λ (p : Progress). p.flags) c.begin-progress.ensures) in
+    let begins : (slot ≡ c.args.slot) × (flags ≡ c.args.flags) =
+    (ap (λ (p : Progress). p.slot) c.begin-progress.ensures, ap (λ (p : Progress). p.flags) c.begin-progress.ensures) in
     let ip_low : slot.ip.0 ≤ 512 = rw begins.0 c.requires.0 in
     let runs_on : is_running c.loop-steps.progress.slot.mode ≡ true = sym c.is_running.ensures ∙ c.if-not-is_running.false in
     let room : 2 * c.loop-steps.progress.writes + 2 * length (wrote_by c.take_slot_step-step.result.effect) ≤ length c.loop-steps.writes =
@@ -69,11 +73,14 @@ after_slot_step-progress-requires c =
     scene_for a.family a.code.now a.marks.now a.enable (log_of a.clocks.now a.known.now a.values.now) in
     let slot : Slot = c.begin-progress.result.slot in
     let flags : Flags = c.begin-progress.result.flags in
-    let begins : (slot ≡ c.args.slot) × (flags ≡ c.args.flags) = (ap (λ (p : Progress). p.slot) c.begin-progress.ensures, ap (λ (p : Progress). p.flags) c.begin-progress.ensures) in
+    let begins : (slot ≡ c.args.slot) × (flags ≡ c.args.flags) =
+    (ap (λ (p : Progress). p.slot) c.begin-progress.ensures, ap (λ (p : Progress). p.flags) c.begin-progress.ensures) in
     let ip_low : slot.ip.0 ≤ 512 = rw begins.0 c.requires.0 in
     let runs_on : is_running c.loop-steps.progress.slot.mode ≡ true = sym c.is_running.ensures ∙ c.if-not-is_running.false in
     let few : c.loop-steps.steps ≤ 512 = omega (arith, small _ c.code_size-limit.ensures.answered) in
-    let slot_step_fits_at : (c.loop-steps.progress.steps < 1024) × (c.loop-steps.progress.writes < 1024) × (c.loop-steps.progress.waited + c.take_slot_step-step.result.waited < 2 ^ 64) × (c.loop-steps.progress.searched + c.take_slot_step-step.result.searched < 2 ^ 64) =
+    let slot_step_fits_at : (c.loop-steps.progress.steps < 1024) × (c.loop-steps.progress.writes < 1024)
+    × (c.loop-steps.progress.waited + c.take_slot_step-step.result.waited < 2 ^ 64)
+    × (c.loop-steps.progress.searched + c.take_slot_step-step.result.searched < 2 ^ 64) =
     slot_step_fits scene slot flags ip_low c.requires.1
     c.loop-steps.steps c.loop-steps.progress c.loop-steps.invariant.0 runs_on c.take_slot_step-step.result c.take_slot_step-step.ensures few in
     slot_step_fits_at
@@ -90,13 +97,15 @@ loop-steps-preserved c =
     scene_for a.family a.code.now a.marks.now a.enable (log_of a.clocks.now a.known.now a.values.now) in
     let slot : Slot = c.begin-progress.result.slot in
     let flags : Flags = c.begin-progress.result.flags in
-    let begins : (slot ≡ c.args.slot) × (flags ≡ c.args.flags) = (ap (λ (p : Progress). p.slot) c.begin-progress.ensures, ap (λ (p : Progress). p.flags) c.begin-progress.ensures) in
+    let begins : (slot ≡ c.args.slot) × (flags ≡ c.args.flags) =
+    (ap (λ (p : Progress). p.slot) c.begin-progress.ensures, ap (λ (p : Progress). p.flags) c.begin-progress.ensures) in
     let ip_low : slot.ip.0 ≤ 512 = rw begins.0 c.requires.0 in
     let runs_on : is_running c.loop-steps.progress.slot.mode ≡ true = sym c.is_running.ensures ∙ c.if-not-is_running.false in
     let after : progress_after c.loop-steps.progress c.take_slot_step-step.result ≡ progress_of (run_to scene slot flags (suc c.loop-steps.steps)) =
     progress_after_lem scene slot flags ip_low c.requires.1
     c.loop-steps.steps c.loop-steps.progress c.loop-steps.invariant.0 runs_on c.take_slot_step-step.result c.take_slot_step-step.ensures in
-    let stored : sets c.loop-steps.writes (2 * c.loop-steps.progress.writes) (entries_of (wrote_by c.take_slot_step-step.result.effect)) ≡ written_into c.args.writes.now (run_to scene slot flags (suc c.loop-steps.steps)).writes =
+    let stored : sets c.loop-steps.writes (2 * c.loop-steps.progress.writes)
+    (entries_of (wrote_by c.take_slot_step-step.result.effect)) ≡ written_into c.args.writes.now (run_to scene slot flags (suc c.loop-steps.steps)).writes =
     store_is scene slot flags ip_low c.requires.1
     c.loop-steps.steps c.loop-steps.progress c.loop-steps.invariant.0 runs_on c.take_slot_step-step.result c.take_slot_step-step.ensures
     c.args.writes.now c.loop-steps.writes c.requires.2 c.loop-steps.invariant.1 in
@@ -109,8 +118,10 @@ returns-then-not-is_running c =
     scene_for a.family a.code.now a.marks.now a.enable (log_of a.clocks.now a.known.now a.values.now) in
     let slot : Slot = c.begin-progress.result.slot in
     let flags : Flags = c.begin-progress.result.flags in
-    let begins : (slot ≡ c.args.slot) × (flags ≡ c.args.flags) = (ap (λ (p : Progress). p.slot) c.begin-progress.ensures, ap (λ (p : Progress). p.flags) c.begin-progress.ensures) in
-    let ended : run_to scene slot flags c.loop-steps.steps ≡ full_slot_run scene slot flags → RunsThrough scene c.args.slot c.args.flags c.args.writes.now c.loop-steps.writes c.loop-steps.progress = λ e.
+    let begins : (slot ≡ c.args.slot) × (flags ≡ c.args.flags) =
+    (ap (λ (p : Progress). p.slot) c.begin-progress.ensures, ap (λ (p : Progress). p.flags) c.begin-progress.ensures) in
+    let ended : run_to scene slot flags c.loop-steps.steps ≡ full_slot_run scene slot flags
+    → RunsThrough scene c.args.slot c.args.flags c.args.writes.now c.loop-steps.writes c.loop-steps.progress = λ e.
     let run_is : run_to scene slot flags c.loop-steps.steps ≡ full_slot_run scene c.args.slot c.args.flags
     = e ∙ ap₂ (full_slot_run scene) begins.0 begins.1 in
     record {
@@ -129,9 +140,11 @@ returns-then-fetched-eq0 c =
     scene_for a.family a.code.now a.marks.now a.enable (log_of a.clocks.now a.known.now a.values.now) in
     let slot : Slot = c.begin-progress.result.slot in
     let flags : Flags = c.begin-progress.result.flags in
-    let begins : (slot ≡ c.args.slot) × (flags ≡ c.args.flags) = (ap (λ (p : Progress). p.slot) c.begin-progress.ensures, ap (λ (p : Progress). p.flags) c.begin-progress.ensures) in
+    let begins : (slot ≡ c.args.slot) × (flags ≡ c.args.flags) =
+    (ap (λ (p : Progress). p.slot) c.begin-progress.ensures, ap (λ (p : Progress). p.flags) c.begin-progress.ensures) in
     let ip_low : slot.ip.0 ≤ 512 = rw begins.0 c.requires.0 in
-    let ended : run_to scene slot flags c.loop-steps.steps ≡ full_slot_run scene slot flags → RunsThrough scene c.args.slot c.args.flags c.args.writes.now c.loop-steps.writes c.loop-steps.progress = λ e.
+    let ended : run_to scene slot flags c.loop-steps.steps ≡ full_slot_run scene slot flags
+    → RunsThrough scene c.args.slot c.args.flags c.args.writes.now c.loop-steps.writes c.loop-steps.progress = λ e.
     let run_is : run_to scene slot flags c.loop-steps.steps ≡ full_slot_run scene c.args.slot c.args.flags
     = e ∙ ap₂ (full_slot_run scene) begins.0 begins.1 in
     record {
