@@ -4,8 +4,8 @@ ghost use Rattle.capi_machine.specs.Stepping.{slot_numbered, effect_numbers, ste
 ghost use Rattle.event_log.specs.Log.{log_of};
 
 use capi_state::{StateImage, state_image, state_of_image};
-use isa::MmioAddress;
 use event_log::Place;
+use isa::MmioAddress;
 use machine_slot::Effect;
 use machine_state::SlotName;
 use machine_step::Stepped;

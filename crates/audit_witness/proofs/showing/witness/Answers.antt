@@ -1,7 +1,6 @@
 use mathlib.Core.Path.{◌≡◌, sym, ap, ◌∙◌}
 use mathlib.Core.Bool.{true}
 use mathlib.Core.Logic.{⊎_elim}
-use borrow.Author.Tests.{ltb-true, ltb-false}
 use Rattle.event_log.specs.Log.{Log, log_of}
 use Rattle.event_log.proofs.Columns.{Room}
 use Rattle.script.specs.Script.{script_of}

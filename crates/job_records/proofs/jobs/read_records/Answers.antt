@@ -2,10 +2,8 @@ use Rattle.std.proofs.Common.{rules}
 use Prim.Native.Nat.{ℕ, suc, ◌+◌, ◌-◌, ◌≤◌}
 use mathlib.Core.Path.{◌≡◌, refl, ap, sym, subst, ◌∙◌}
 use mathlib.Core.List.{List}
-use mathlib.Core.Logic.{⊎_elim}
 use native.Mathlib.Omega.{arith}
 use lib.ListN.{length, take, drop, replicate, length-drop}
-use borrow.Author.Tests.{eqb-true, eqb-false}
 use Rattle.host_registers.specs.Access.{blank_state}
 use Rattle.event_log.specs.Log.{log_of}
 use Rattle.machine_state.specs.Sequencer.{state_from}

@@ -1,36 +1,20 @@
 use Prim.Native.Nat.{ℕ, suc, ◌+◌, ◌-◌, ◌≤◌, ◌<◌}
-use mathlib.Core.Path.{◌≡◌, refl, ap, sym, subst, ◌∙◌}
+use mathlib.Core.Path.{◌≡◌}
 use mathlib.Core.List.{List}
-use mathlib.Core.Logic.{⊎_elim}
-use native.Mathlib.Omega.{arith}
-use lib.ListN.{length, take, drop, replicate, length-drop}
-use borrow.Author.Tests.{eqb-true, eqb-false}
-use Rattle.host_registers.specs.Access.{blank_state}
+use lib.ListN.{length}
 use Rattle.event_log.specs.Log.{Log, log_of}
 use Rattle.machine_state.specs.Sequencer.{state_from}
-use Rattle.machine_state.specs.declared.sequencer.Sequencer.{Sequencer}
 use Rattle.machine_state.specs.declared.state.State.{State}
-use Rattle.words.specs.Numbers.{byte_at}
-use Rattle.job_records.specs.Records.{kind_of}
-use Rattle.job_records.specs.Job.{counted, empty_job, after_record}
-use Rattle.job_records.specs.Reader.{max_bytes, CountsWithin, read_at, read_in, Sound}
-use Rattle.job_records.specs.Started.{Started}
+use Rattle.job_records.specs.Job.{empty_job}
+use Rattle.job_records.specs.Reader.{CountsWithin, read_in}
 use Rattle.job_records.specs.declared.contents.Counts.{Counts}
 use Rattle.job_records.specs.declared.contents.Job.{Job}
-use Rattle.job_records.specs.declared.kinds.Kind.{Kind}
 use Rattle.job_records.specs.declared.jobs.JobRead.{JobRead}
 use Rattle.probe_captures.specs.declared.extents.Extent.{Extent}
 use Rattle.probe_captures.specs.declared.gates.EventGate.{EventGate}
 use Rattle.probe_captures.specs.declared.masks.Masks.{Masks}
 use Rattle.probe_captures.specs.declared.probes.Probes.{Probes}
-use Rattle.job_records.proofs.Clear.{Clear, clear, end_started, end_used_up}
-use Rattle.job_records.proofs.Counting.{counts_empty, counts_on}
-use Rattle.job_records.proofs.Growth.{Going, going_empty, going_on, going_sound}
-use Rattle.job_records.proofs.KindTests.{NoKind, no_kind}
-use Rattle.job_records.proofs.Reading.{from, read_next, read_fault, read_end, with_counts}
-use Rattle.job_records.proofs.Reading.{StateKind, storeless, Reached, row_reached, range_reached, state_reached, gate_reached, capture_reached}
-use Rattle.job_records.proofs.Reading.{end_reached, none_reached}
-use Rattle.job_records.proofs.Starting.{started}
+use Rattle.job_records.proofs.Growth.{Going}
 use Rattle.job_records.proofs.jobs.read_records.Given as goal
 
 -- the answer from the start

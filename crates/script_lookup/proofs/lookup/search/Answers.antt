@@ -1,4 +1,3 @@
-use Prim.Native.Nat.{◌-◌}
 use mathlib.Core.Path.{◌≡◌}
 use native.Mathlib.Omega.{arith}
 use Rattle.script_lookup.proofs.SearchLaws.{searching_first, searching_done, searching_on, step_low, searches}

@@ -1,10 +1,8 @@
-use Prim.Native.Nat.{◌+◌, ◌-◌, ◌≤◌}
-use mathlib.Core.Path.{◌≡◌, refl, sym, ap, subst, ◌∙◌}
-use mathlib.Core.Bool.{Bool, not, ◌&&◌}
-use native.Mathlib.Omega.{arith}
+use Prim.Native.Nat.{◌-◌, ◌≤◌}
+use mathlib.Core.Path.{◌≡◌}
+use mathlib.Core.Bool.{not, ◌&&◌}
 use lib.ListN.{length, drop}
 use Rattle.script_lookup.specs.Rising.{ranges_rise}
-use Rattle.script_lookup.proofs.RisingLaws.{rise_end, rise_next, rises}
 use Rattle.script_lookup.proofs.rising.ranges_rise.Given as goal
 
 abbrev pub invariant-loop-i : goal.invariant-loop-i
