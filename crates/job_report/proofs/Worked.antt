@@ -41,13 +41,14 @@ use Rattle.job_report.specs.Report.{run_lines, job_lines, report_of, step_lines}
 use Rattle.job_report.specs.Worked.{Worked}
 
 pub worked : Worked
-unfolding span climb size odd units round sum add mul lt eq le is_nan of_fields of_bits to_bits ones_in by_family opcode_at decode_of wait_clocks all_marked fetch_of
-    valid_log valid_place lowest_zero wait_in has_reading search_in enables_after values_after overrides1 perform_of advance_of step_of blank_state write_of read_of
-    after_upload entry_point code_at register_at slot_status status_word after_trigger script_fits ranges_fit run_for slot_run_for can_release verdict_in audit_of
-    decimal_in decimal_text hex_in hex_word one_more_of empty_job state_after bounds_after column_after probes_after after_record read_in job_read_of kind_of is_out_of_order
-    is_unknown is_cut_short is_too_many is_bad_family is_bad_range write_number is_bad_row is_bad_probe is_unusable has_bytes_after ends_idle refusal_of word_at long_at
-    is_bad_gate is_bad_capture gate_taken capture_taken row_known row_values row_taken noted gate_in capture_in no_probes heard_of with_gate with_capture with_row verdict_of
-    job_run status_of refused_line family_line fault_line pass_line write_line row_line event_line end_line status_line run_lines job_lines report_of step_lines
+unfolding span climb size odd units round sum add mul lt eq le is_nan of_fields of_bits to_bits ones_in by_family opcode_at decode_of wait_clocks all_marked
+    fetch_of valid_log valid_place lowest_zero wait_in has_reading search_in enables_after values_after overrides1 perform_of advance_of step_of blank_state
+    write_of read_of after_upload entry_point code_at register_at slot_status status_word after_trigger script_fits ranges_fit run_for slot_run_for
+    can_release verdict_in audit_of decimal_in decimal_text hex_in hex_word one_more_of empty_job state_after bounds_after column_after probes_after
+    after_record read_in job_read_of kind_of is_out_of_order is_unknown is_cut_short is_too_many is_bad_family is_bad_range write_number is_bad_row
+    is_bad_probe is_unusable has_bytes_after ends_idle refusal_of word_at long_at is_bad_gate is_bad_capture gate_taken capture_taken row_known row_values
+    row_taken noted gate_in capture_in no_probes heard_of with_gate with_capture with_row verdict_of job_run status_of refused_line family_line fault_line
+    pass_line write_line row_line event_line end_line status_line run_lines job_lines report_of step_lines
 worked = record {
   example = refl;
   slot_b = refl;

@@ -40,8 +40,8 @@ example_report =
     ++ codes_of "status 0000000a\n"
 
 -- slot B at entry point 1, with memory paused before: it ends at exit
-abbrev pub slot_bjob : List ℕ
-slot_bjob =
+abbrev pub slot_b_job : List ℕ
+slot_b_job =
     -- family 2
     (0x04 ∷ 0x02 ∷ [])
     -- 001098: HWSQ_ENABLE
@@ -68,8 +68,8 @@ slot_bjob =
     -- end
     ++ (0x00 ∷ [])
 
-abbrev pub slot_breport : List ℕ
-slot_breport =
+abbrev pub slot_b_report : List ℕ
+slot_b_report =
     codes_of "family 2\n"
     ++ codes_of "verdict 0 place 10 count 5 writes 0 clocks 128\n"
     ++ codes_of "row 0 known 2 first 1\n"
@@ -236,7 +236,7 @@ state_left bytes = (step_run (job_in bytes)).state
 
 pub record Worked : Type 0 where
   pub example : report_of example_job ≡ example_report
-  pub slot_b : report_of slot_bjob ≡ slot_breport
+  pub slot_b : report_of slot_b_job ≡ slot_b_report
   pub high_code : report_of high_code_job ≡ high_code_report
   pub unknown_opcode : report_of unknown_opcode_job ≡ unknown_opcode_report
   pub past_code_ram : report_of past_code_ram_job ≡ past_code_ram_report
@@ -246,8 +246,8 @@ pub record Worked : Type 0 where
   pub without_gain : report_of dead_without_gain ≡ codes_of "refused 16 at 2\n"
   pub capture_left : report_of capture_left_job ≡ codes_of "refused 33 at 27\n"
   -- no report tells the flags: memory is paused when slot B starts and not when it is done, and FLAGS then read so
-  pub paused : (paused_of 2 (job_in slot_bjob).state.flags ≡ true) × (paused_of 2 (state_left slot_bjob).flags ≡ false)
-  pub flags_0 : read_of (state_left slot_bjob) (record { 0 = 0x001310 }) ≡ ReadAnswer.Word 0x00050000
-  pub flags_1 : read_of (state_left slot_bjob) (record { 0 = 0x001314 }) ≡ ReadAnswer.Word 0x00000001
+  pub paused : (paused_of 2 (job_in slot_b_job).state.flags ≡ true) × (paused_of 2 (state_left slot_b_job).flags ≡ false)
+  pub flags_0 : read_of (state_left slot_b_job) (record { 0 = 0x001310 }) ≡ ReadAnswer.Word 0x00050000
+  pub flags_1 : read_of (state_left slot_b_job) (record { 0 = 0x001314 }) ≡ ReadAnswer.Word 0x00000001
   -- and no report tells a hang, since its script does not pass
   pub hangs : step_lines (job_in unknown_opcode_job) ≡ unknown_opcode_steps

@@ -1,0 +1,6 @@
+use Rattle.job_report.specs.JobScript.{status_of}
+use Rattle.job_output.proofs.runs.status_of.Goals as goal
+
+pub returns : goal.returns
+unfolding status_of
+returns c = simp (c.word_of.ensures, c.read_register.ensures.answered)
