@@ -39,7 +39,7 @@ pub fn read_job(bytes: &[u8]) -> JobRead
     read_records(bytes)
 }
 
-// Each record passes all its tests before the next is read. What it says is stored in place: a job is 19 k_b.
+// Each record passes all its tests before the next is read. What it says is stored in place: a job is 19 kB.
 fn read_records(bytes: &[u8]) -> JobRead
     requires { length bytes.now ≤ max_bytes }
     ensures { RecordsRead bytes.now result }
