@@ -34,7 +34,7 @@ fn executing(sequencer: Sequencer) -> Slot
 }
 
 // The verdict on the script of a sequencer with this code RAM, over the first ranges. A job's arrays are lent to its audit and
-// to its run, since a copy of them is 17 k_b.
+// to its run, since a copy of them is 17 kB.
 pub(crate) fn audit_code<'a>(
     sequencer: Sequencer,
     code: &'a [u8],
