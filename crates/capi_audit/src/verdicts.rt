@@ -50,7 +50,7 @@ fn audit_reply(verdict: Verdict) -> AuditReply
             clocks,
         },
         Verdict::Fault(fault, place) => AuditReply {
-            verdict: refusals::fault_number(fault),
+            verdict: u8::from(fault),
             place: place.0,
             count: 0,
             writes: 0,

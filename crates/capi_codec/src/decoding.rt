@@ -30,7 +30,7 @@ fn decode_reply(found: Decoded) -> DecodeReply
 {
     match found {
         Decoded::Instruction(instruction, length) => instruction_reply(instruction, length),
-        Decoded::Refused(why) => unread(refusals::unreadable_number(why)),
+        Decoded::Refused(why) => unread(u8::from(why)),
     }
 }
 

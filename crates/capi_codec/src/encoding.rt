@@ -50,7 +50,7 @@ fn encoded_reply(answer: Encoded) -> EncodeReply
 {
     match answer {
         Encoded::Length(length) => EncodeReply { refusal: 0, length },
-        Encoded::Refused(why) => unwritten(refusals::unwritable_number(why)),
+        Encoded::Refused(why) => unwritten(u8::from(why)),
     }
 }
 

@@ -52,7 +52,7 @@ fn read_reply(reading: ReadAnswer) -> ReadReply
     match reading {
         ReadAnswer::Word(word) => ReadReply { refusal: 0, word },
         ReadAnswer::Refused(why) => ReadReply {
-            refusal: refusals::inaccessible_number(why),
+            refusal: u8::from(why),
             word: 0,
         },
     }
@@ -66,7 +66,7 @@ fn access_reply(access: Access) -> AccessReply
     match outcome {
         Outcome::Done => AccessReply { refusal: 0, state },
         Outcome::Refused(why) => AccessReply {
-            refusal: refusals::inaccessible_number(why),
+            refusal: u8::from(why),
             state,
         },
     }

@@ -87,9 +87,9 @@ fn effect_numbers(effect: Effect) -> EffectNumbers
 {
     let nowhere = MmioAddress(0);
     match effect {
-        Effect::Refused(why) => numbers(refusals::unsteppable_number(why), 0, 0, nowhere, 0),
+        Effect::Refused(why) => numbers(u8::from(why), 0, 0, nowhere, 0),
         Effect::Nothing => numbers(0, 0, 0, nowhere, 0),
-        Effect::Stopped(why) => numbers(0, 1, refusals::unreadable_number(why), nowhere, 0),
+        Effect::Stopped(why) => numbers(0, 1, u8::from(why), nowhere, 0),
         Effect::Unknown => numbers(0, 2, 0, nowhere, 0),
         Effect::Done => numbers(0, 3, 0, nowhere, 0),
         Effect::Wrote(address, word) => numbers(0, 4, 0, address, word),

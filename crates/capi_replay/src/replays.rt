@@ -75,7 +75,7 @@ fn replay_reply(answer: ReplayAnswer) -> ReplayReply
 {
     match answer {
         ReplayAnswer::Ended(told) => ended_reply(told),
-        ReplayAnswer::Refused(why) => unreplayed(refusals::unreplayable_number(why)),
+        ReplayAnswer::Refused(why) => unreplayed(u8::from(why)),
     }
 }
 

@@ -59,7 +59,7 @@ fn witness_reply(answer: WitnessAnswer) -> WitnessReply
 {
     match answer {
         WitnessAnswer::Shown(shown) => shown_reply(shown),
-        WitnessAnswer::Refused(why) => unshown_reply(refusals::unshowable_number(why)),
+        WitnessAnswer::Refused(why) => unshown_reply(u8::from(why)),
     }
 }
 
@@ -82,7 +82,7 @@ fn shown_reply(shown: Shown) -> WitnessReply
             ..
         } => told_reply(0, place, count, clocks, shown),
         Verdict::Fault(fault, place) => {
-            told_reply(refusals::fault_number(fault), place, 0, 0, shown)
+            told_reply(u8::from(fault), place, 0, 0, shown)
         }
     }
 }

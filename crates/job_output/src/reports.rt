@@ -81,7 +81,7 @@ fn put_verdict(out: &mut [u8; MAX_REPORT], family: u8, verdict: Verdict) -> usiz
             clocks,
         } => put_pass(out, a, place.0, count, writes, clocks),
         Verdict::Fault(fault, place) => {
-            put_fault(out, a, refusals::fault_number(fault), place.0)
+            put_fault(out, a, u8::from(fault), place.0)
         }
     }
 }

@@ -89,7 +89,7 @@ fn outcome_number(outcome: Outcome) -> u8
 {
     match outcome {
         Outcome::Done => 0,
-        Outcome::Refused(why) => refusals::inaccessible_number(why),
+        Outcome::Refused(why) => u8::from(why),
     }
 }
 
