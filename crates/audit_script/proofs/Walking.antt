@@ -1,11 +1,12 @@
 -- The auditor's walk, one instruction at a time, and what stays small along it. Assumes nothing.
+use Rattle.std.specs.Prelude.{Ok, Err}
 use Prim.Native.Nat.{ℕ, zero, suc, ◌+◌, ◌*◌, ◌^◌, ◌≤◌, ◌<◌}
 use mathlib.Core.Path.{◌≡◌, refl, sym, ap, ◌∙◌}
 use mathlib.Core.List.{List}
 use native.Mathlib.Omega.{arith}
 use Rattle.families.specs.Family.{code_size}
 use Rattle.isa.specs.declared.instructions.Instruction.{Instruction}
-use Rattle.isa.specs.declared.reader.Decoded.{Decoded}
+use Rattle.isa.specs.Answers.{Decoded}
 use Rattle.refusals.specs.declared.refusals.Unreadable.{Unreadable}
 use Rattle.isa.proofs.Clocks.{wait_most}
 use Rattle.isa_fetch.proofs.Places.{size_small, fetch_past}
@@ -41,7 +42,7 @@ poke_small Action.Exit = omega arith
 
 module _ (x : Script) (ranges : List ℕ) where
   -- past the code RAM no instruction is left to count on, and none is found
-  none_remain : (left at : ℕ) (k : Knowledge) (why : Unreadable) → code_size x.family ≤ at + left → fetch_at x at ≡ Decoded.Refused why
+  none_remain : (left at : ℕ) (k : Knowledge) (why : Unreadable) → code_size x.family ≤ at + left → fetch_at x at ≡ Err why
       → verdict_in left x ranges at k ≡ fault_at (fault_of why) at
   unfolding verdict_in
   none_remain zero at k why h f =
@@ -71,10 +72,10 @@ module _ (x : Script) (ranges : List ℕ) where
   }
 
 module _ {x : Script} {ranges : List ℕ} {at : ℕ} {k : Knowledge} (g : Going x ranges at k) where
-  pub going_none : (why : Unreadable) → fetch_at x at ≡ Decoded.Refused why → fault_at (fault_of why) at ≡ walk_of x ranges
+  pub going_none : (why : Unreadable) → fetch_at x at ≡ Err why → fault_at (fault_of why) at ≡ walk_of x ranges
   going_none why f = sym (none_remain x ranges g.left at k why g.enough f) ∙ g.same
 
-  module _ (i : Instruction) (n : ℕ) (f : fetch_at x at ≡ Decoded.Instruction i n) (some : 0 < n) (inside : at + n ≤ code_size x.family) where
+  module _ (i : Instruction) (n : ℕ) (f : fetch_at x at ≡ Ok (i, n)) (some : 0 < n) (inside : at + n ≤ code_size x.family) where
     one_remains : (l : ℕ) → g.left ≡ l → (m : ℕ) × (g.left ≡ suc m)
     one_remains zero e = absurd (omega (arith, g.enough))
     one_remains (suc m) e = (m, e)

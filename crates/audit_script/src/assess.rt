@@ -5,7 +5,7 @@ ghost use Rattle.machine_flags.specs.Flags.{fb_pause};
 ghost use Rattle.audit_verdict.specs.Auditor.{target_of, judge_poke, can_release, judge_of};
 ghost use Rattle.audit_verdict.specs.Auditor.{known_addr, known_data, known_paused, poke_count, wait_length, loads_both, is_set1, know_next, know_nothing};
 
-use audit_verdict::{Judgement, Knowledge, KnownAddress};
+use audit_verdict::{Judgement, Knowledge};
 use isa::MmioAddress;
 use machine_actions::{Action, Part};
 use machine_flags::Change;
@@ -13,36 +13,31 @@ use refusals::Fault;
 use script::listed;
 
 // Where a poke goes, as far as the script has said.
-fn target_of(part: Part, word: u32, known: KnownAddress) -> KnownAddress
+fn target_of(part: Part, word: u32, known: Option<MmioAddress>) -> Option<MmioAddress>
     ensures { result ≡ target_of part word known }
 {
     match part {
-        Part::Whole => KnownAddress::At(MmioAddress(word)),
+        Part::Whole => Some(MmioAddress(word)),
         Part::Low => match known {
-            KnownAddress::Unset => KnownAddress::Unset,
-            KnownAddress::At(address) => {
-                KnownAddress::At(MmioAddress(machine_actions::merge(part, address.0, word)))
-            }
+            None => None,
+            Some(address) => Some(MmioAddress(machine_actions::merge(part, address.0, word))),
         },
     }
 }
 
-fn judge_poke(ranges: &[u32], target: KnownAddress, halves: bool) -> Judgement
+fn judge_poke(ranges: &[u32], target: Option<MmioAddress>, halves: bool) -> Judgement
     ensures { result ≡ judge_poke ranges.now target halves }
 {
-    match target {
-        KnownAddress::Unset => Judgement::Bad(Fault::NoAddress),
-        KnownAddress::At(address) => {
-            if halves {
-                if listed(ranges, address) {
-                    Judgement::Fine
-                } else {
-                    Judgement::Bad(Fault::Outside)
-                }
-            } else {
-                Judgement::Bad(Fault::HalfData)
-            }
-        }
+    let Some(address) = target else {
+        return Judgement::Bad(Fault::NoAddress);
+    };
+    if !halves {
+        return Judgement::Bad(Fault::HalfData);
+    }
+    if listed(ranges, address) {
+        Judgement::Fine
+    } else {
+        Judgement::Bad(Fault::Outside)
     }
 }
 
@@ -114,7 +109,7 @@ fn touch(change: Change, flag: u8, paused: bool) -> bool
     }
 }
 
-fn known_addr(action: Action, addr: KnownAddress) -> KnownAddress
+fn known_addr(action: Action, addr: Option<MmioAddress>) -> Option<MmioAddress>
     ensures { result ≡ known_addr action addr }
 {
     match action {
@@ -183,7 +178,7 @@ pub fn know_nothing() -> Knowledge
     ensures { result ≡ know_nothing }
 {
     Knowledge {
-        addr: KnownAddress::Unset,
+        addr: None,
         data: false,
         paused: false,
         count: 0,

@@ -1,34 +1,28 @@
 // The auditor: reads a script from its entry to the first exit and tells the first fault.
 ghost use Rattle.std.specs.Prelude.{◌≡◌, true};
 ghost use Rattle.refusals.specs.Number.{unreadable_number, fault_number};
-ghost use Rattle.script.specs.Script.{script_of};
+ghost use Rattle.script.specs.Script.{lent_script};
 ghost use Rattle.script.specs.Input.{input_fits};
 ghost use Rattle.audit_verdict.specs.Auditor.{fault_of, walk_of};
 ghost use Rattle.audit_script.specs.Promises.{Audits};
 
 use crate::assess::{judge, know_next, know_nothing};
 use audit_verdict::{Judgement, Verdict};
-use isa::{CodeAddress, Decoded};
+use isa::CodeAddress;
 use refusals::{Fault, Unreadable};
-use script::{ranges_fit, script_fits};
+use script::{Script, ranges_fit};
 
 // The verdict on a script; the ranges are firsts and lasts, one after the other.
-pub fn audit<'a>(
-    family: u8,
-    code: &'a [u8],
-    marks: &'a [u8],
-    entry: CodeAddress,
-    ranges: &'a [u32],
-) -> Verdict
-    ensures { Audits (script_of family code.now marks.now entry.0) ranges.now result }
+pub fn audit(script: Script<'_>, ranges: &[u32]) -> Verdict
+    ensures { Audits (lent_script script.entry) ranges.now result }
 {
-    if !script_fits(family, code, marks, entry) {
+    if !script.fits() {
         return Verdict::Fault(Fault::Input, CodeAddress(0));
     }
     if !ranges_fit(ranges) {
         return Verdict::Fault(Fault::Input, CodeAddress(0));
     }
-    walk(family, code, marks, entry, ranges)
+    walk(script, ranges)
 }
 
 // Why there is no instruction, as the fault with the reader's number.
@@ -46,40 +40,34 @@ fn fault_of(why: Unreadable) -> Fault
 }
 
 // From the entry to the first exit or fault.
-fn walk<'a>(
-    family: u8,
-    code: &'a [u8],
-    marks: &'a [u8],
-    entry: CodeAddress,
-    ranges: &'a [u32],
-) -> Verdict
-    requires { input_fits (script_of family code.now marks.now entry.0) ranges.now ≡ true }
-    ensures { result ≡ walk_of (script_of family code.now marks.now entry.0) ranges.now }
+fn walk(script: Script<'_>, ranges: &[u32]) -> Verdict
+    requires { input_fits (lent_script script) ranges.now ≡ true }
+    ensures { result ≡ walk_of (lent_script script.entry) ranges.now }
 {
-    let mut at = entry.0;
+    let mut at = script.entry.0;
     let mut known = know_nothing();
     let verdict = loop {
-        let found = isa_fetch::fetch(family, code, marks, CodeAddress(at));
-        let Decoded::Instruction(instruction, length) = found else {
-            break Verdict::Fault(fault_of(isa_fetch::reason_of(found)), CodeAddress(at));
+        let place = CodeAddress(at);
+        let found = script.ram.fetch(place);
+        let Ok((instruction, length)) = found else {
+            break Verdict::Fault(fault_of(isa_fetch::reason_of(found)), place);
         };
         let action = machine_actions::action_of(instruction);
-        let judgement = judge(family, ranges, action, known);
-        match judgement {
+        match judge(script.ram.family, ranges, action, known) {
             Judgement::Fine => {
                 known = know_next(action, known);
                 at += length;
             }
             Judgement::Exit => {
                 break Verdict::Pass {
-                    place: CodeAddress(at),
+                    place,
                     count: known.count + 1,
                     writes: known.writes,
                     clocks: known.clocks,
                 };
             }
             Judgement::Bad(fault) => {
-                break Verdict::Fault(fault, CodeAddress(at));
+                break Verdict::Fault(fault, place);
             }
         }
     };

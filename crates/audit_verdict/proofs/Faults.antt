@@ -1,11 +1,12 @@
 -- What each fault of the auditor means, from what the log made for its walk shows. Assumes nothing.
+use Rattle.std.specs.Prelude.{Err}
 use Prim.Native.Nat.{ℕ, suc, ◌+◌}
 use mathlib.Core.Path.{◌≡◌, refl, ap}
 use mathlib.Core.Bool.{true, false}
 use mathlib.Core.List.{List}
 use native.Mathlib.Omega.{arith}
 use lib.Dec.{lit<}
-use Rattle.isa.specs.declared.reader.Decoded.{Decoded}
+use Rattle.isa.specs.Answers.{Decoded}
 use Rattle.refusals.specs.declared.refusals.Fault.{Fault}
 use Rattle.refusals.specs.declared.refusals.Unreadable.{Unreadable}
 use Rattle.event_log.specs.Log.{Log}
@@ -55,7 +56,7 @@ module _ {x : Script} {ranges : List ℕ} (fit : Auditable x) {q : ℕ} {k : Kno
   shown p = (witness fit w plain, brought fit w plain, none_before fit w plain, p)
 
   -- the fetch fails
-  pub refused : (why : Unreadable) → fetch_at x q ≡ Decoded.Refused why → Means (fault_of why)
+  pub refused : (why : Unreadable) → fetch_at x q ≡ Err why → Means (fault_of why)
   refused Unreadable.Family e = absurd (refused_sees fit w plain Unreadable.Family e)
   refused Unreadable.Empty e = shown (refused_sees fit w plain Unreadable.Empty e)
   refused Unreadable.Unknown e = shown (refused_sees fit w plain Unreadable.Unknown e)

@@ -1,4 +1,5 @@
 -- The verdict's number is that of the first of 01's tests which fails, on the way from the entry to the first exit. Assumes nothing.
+use Rattle.std.specs.Prelude.{Ok, Err, Some, None}
 use Prim.Native.Nat.{ℕ, zero, suc, ◌+◌}
 use mathlib.Core.Path.{◌≡◌, refl, sym, ap, ◌∙◌}
 use mathlib.Core.Bool.{Bool, true, false, cond, not, ◌&&◌, ◌||◌}
@@ -13,7 +14,7 @@ use Rattle.refusals.specs.declared.refusals.Fault.{Fault}
 use Rattle.refusals.specs.declared.refusals.Unreadable.{Unreadable}
 use Rattle.isa.specs.Reader.{decoded_number}
 use Rattle.isa.specs.declared.instructions.Instruction.{Instruction}
-use Rattle.isa.specs.declared.reader.Decoded.{Decoded}
+use Rattle.isa.specs.Answers.{Decoded}
 use Rattle.isa_fetch.specs.Fetch.{fetch_tests, fetch_refusal}
 use Rattle.isa_fetch.proofs.Numbers.{fetch_numbered}
 use Rattle.families.proofs.Tests.{cond_elim}
@@ -35,7 +36,7 @@ use Rattle.audit_verdict.proofs.Cases.{never}
 -- ---- what the auditor keeps of the actions before a place
 
 abbrev known_held : List Action → KnownAddress
-known_held before = cond (some_is is_addr before) (KnownAddress.At (record { 0 = addr_held before })) KnownAddress.Unset
+known_held before = cond (some_is is_addr before) (Some (record { 0 = addr_held before })) None
 
 record Noted (k : Knowledge) (before : List Action) : Type 0 where
   addr : k.addr ≡ known_held before
@@ -44,8 +45,8 @@ record Noted (k : Knowledge) (before : List Action) : Type 0 where
 
 -- where an addrlo goes, whether or not an addr came before it
 low_target : (set : Bool) (addr word : ℕ)
-    → target_of Part.Low word (cond set (KnownAddress.At (record { 0 = addr })) KnownAddress.Unset)
-    ≡ cond set (KnownAddress.At (record { 0 = merge_of Part.Low addr word })) KnownAddress.Unset
+    → target_of Part.Low word (cond set (Some (record { 0 = addr })) None)
+    ≡ cond set (Some (record { 0 = merge_of Part.Low addr word })) None
 low_target true addr word = refl
 low_target false addr word = refl
 
@@ -94,7 +95,7 @@ listed_number false = refl
 module _ (family : ℕ) (ranges : List ℕ) where
   poke_number : (part : Part) (word addr : ℕ) (set halves : Bool)
       → cond (is_low part && not set) 4 (cond (not halves) 5 (cond (not (listed_in ranges (merge_of part addr word))) 6 0))
-      ≡ judged_number (judge_poke ranges (target_of part word (cond set (KnownAddress.At (record { 0 = addr })) KnownAddress.Unset)) halves)
+      ≡ judged_number (judge_poke ranges (target_of part word (cond set (Some (record { 0 = addr })) None)) halves)
   poke_number Part.Whole word addr set true = listed_number (listed_in ranges word)
   poke_number Part.Whole word addr set false = refl
   poke_number Part.Low word addr true true = listed_number (listed_in ranges (merge_of Part.Low addr word))
@@ -119,8 +120,8 @@ module _ (family : ℕ) (ranges : List ℕ) where
   Walks action (Judgement.Bad fault) = Unit {0}
 
   poke_walks : (part : Part) (word : ℕ) (target : KnownAddress) (halves : Bool) → Walks (Action.Poke part word) (judge_poke ranges target halves)
-  poke_walks part word KnownAddress.Unset halves = tt
-  poke_walks part word (KnownAddress.At address) halves =
+  poke_walks part word None halves = tt
+  poke_walks part word (Some address) halves =
       cond_elim (Walks (Action.Poke part word)) halves
       (λ _. cond_elim (Walks (Action.Poke part word)) (listed_in ranges address.0) (λ _. refl) (λ _. tt))
       (λ _. tt)
@@ -193,7 +194,7 @@ fault_numbered Fault.Input = refl
 module _ (x : Script) (ranges : List ℕ) where
   -- one instruction of the verdict's definition
   module _ (left at : ℕ) (k : Knowledge) where
-    module _ (i : Instruction) (n : ℕ) (f : fetch_at x at ≡ Decoded.Instruction i n) where
+    module _ (i : Instruction) (n : ℕ) (f : fetch_at x at ≡ Ok (i, n)) where
       pub walk_fine : judge_of x.family ranges (action_of i) k ≡ Judgement.Fine
           → verdict_in (suc left) x ranges at k ≡ verdict_in left x ranges (at + n) (know_next (action_of i) k)
       unfolding verdict_in
@@ -207,7 +208,7 @@ module _ (x : Script) (ranges : List ℕ) where
       unfolding verdict_in
       walk_bad fault j = rw (f, j, verdict_in) refl
 
-    pub walk_none : (why : Unreadable) → fetch_at x at ≡ Decoded.Refused why → verdict_in (suc left) x ranges at k ≡ fault_at (fault_of why) at
+    pub walk_none : (why : Unreadable) → fetch_at x at ≡ Err why → verdict_in (suc left) x ranges at k ≡ fault_at (fault_of why) at
     unfolding verdict_in
     walk_none why f = rw (f, verdict_in) refl
 
@@ -222,8 +223,8 @@ module _ (x : Script) (ranges : List ℕ) where
   module _ (left at : ℕ) (before : List Action) where
     abbrev later_number : Decoded → ℕ
     later_number d = elim d [
-      | Decoded.Instruction i n ↦ cond (is_exit (action_of i)) 0 (number_in left x ranges (action_of i ∷ before) (at + n))
-      | Decoded.Refused why ↦ 0
+      | Ok (i, n) ↦ cond (is_exit (action_of i)) 0 (number_in left x ranges (action_of i ∷ before) (at + n))
+      | Err why ↦ 0
     ]
 
     number_then : (d : Decoded) → fetch_at x at ≡ d → (number : ℕ) → first_of (tests at ++ found_tests x.family ranges before d) ≡ number
@@ -234,21 +235,21 @@ module _ (x : Script) (ranges : List ℕ) where
         ∙ ap (λ (n : ℕ). cond (eqb n 0) (later_number d) n) first
 
     -- the fetch fails
-    number_none : (why : Unreadable) → fetch_at x at ≡ Decoded.Refused why → number_in (suc left) x ranges before at ≡ unreadable_number why
+    number_none : (why : Unreadable) → fetch_at x at ≡ Err why → number_in (suc left) x ranges before at ≡ unreadable_number why
     number_none why e =
-        number_then (Decoded.Refused why) e (unreadable_number why)
-        (first_now (tests at) [] (unreadable_number why) (unread_numbered why) (fetch_number at (Decoded.Refused why) e))
+        number_then (Err why) e (unreadable_number why)
+        (first_now (tests at) [] (unreadable_number why) (unread_numbered why) (fetch_number at (Err why) e))
         ∙ told (unreadable_number why) 0 (unread_numbered why)
 
-    module _ (i : Instruction) (n : ℕ) (e : fetch_at x at ≡ Decoded.Instruction i n) {k : Knowledge} (t : Noted k before) (j : Judgement)
+    module _ (i : Instruction) (n : ℕ) (e : fetch_at x at ≡ Ok (i, n)) {k : Knowledge} (t : Noted k before) (j : Judgement)
         (judged : judge_of x.family ranges (action_of i) k ≡ j) where
       number_judged : (exits : Bool) → is_exit (action_of i) ≡ exits
           → number_in (suc left) x ranges before at
           ≡ cond (eqb (judged_number j) 0) (cond exits 0 (number_in left x ranges (action_of i ∷ before) (at + n))) (judged_number j)
       number_judged exits y =
-          number_then (Decoded.Instruction i n) e (judged_number j)
+          number_then (Ok (i, n)) e (judged_number j)
           (first_later (tests at) (action_tests x.family ranges before (action_of i)) (refl, (refl, (refl, (refl, (refl, tt)))))
-          (fetch_number at (Decoded.Instruction i n) e)
+          (fetch_number at (Ok (i, n)) e)
           ∙ judge_number x.family ranges (action_of i) t
           ∙ ap judged_number judged)
           ∙ rw y refl
@@ -262,7 +263,7 @@ module _ (x : Script) (ranges : List ℕ) where
   walk_numbered (suc left) at k before t =
       by (λ action n. walk_numbered left (at + n) (know_next action k) (action ∷ before) (noted_next action t)) (fetch_at x at) refl
     where
-      judged : (i : Instruction) (n : ℕ) → fetch_at x at ≡ Decoded.Instruction i n → Numbered left (at + n) (know_next (action_of i) k) (action_of i ∷ before)
+      judged : (i : Instruction) (n : ℕ) → fetch_at x at ≡ Ok (i, n) → Numbered left (at + n) (know_next (action_of i) k) (action_of i ∷ before)
           → (j : Judgement) → judge_of x.family ranges (action_of i) k ≡ j → Walks x.family ranges (action_of i) j → Numbered (suc left) at k before
       judged i n e same Judgement.Fine j y =
           ap verdict_number (walk_fine left at k i n e j) ∙ same ∙ sym (number_judged left at before i n e t Judgement.Fine j false y)
@@ -274,9 +275,9 @@ module _ (x : Script) (ranges : List ℕ) where
 
       by : ((action : Action) (n : ℕ) → Numbered left (at + n) (know_next action k) (action ∷ before))
           → (d : Decoded) → fetch_at x at ≡ d → Numbered (suc left) at k before
-      by same (Decoded.Instruction i n) e =
+      by same (Ok (i, n)) e =
           judged i n e (same (action_of i) n) (judge_of x.family ranges (action_of i) k) refl (judge_walks x.family ranges (action_of i) k)
-      by same (Decoded.Refused why) e = ap verdict_number (walk_none left at k why e) ∙ same_number why ∙ sym (number_none left at before why e)
+      by same (Err why) e = ap verdict_number (walk_none left at k why e) ∙ same_number why ∙ sym (number_none left at before why e)
 
 number_of : (fits : Bool) (v : Verdict) (n : ℕ) → verdict_number v ≡ n → verdict_number (cond fits v (fault_at Fault.Input 0)) ≡ cond fits n 9
 number_of true v n e = e

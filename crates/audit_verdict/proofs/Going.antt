@@ -1,9 +1,10 @@
 -- A slot that runs a script, under any log and any HWSQ_ENABLE: its next step; and that a slot that does not run stays as it is. Assumes nothing.
+use Rattle.std.specs.Prelude.{Err}
 use Prim.Native.Nat.{ℕ, ◌+◌}
 use mathlib.Core.Path.{◌≡◌, ap, ◌∙◌}
 use mathlib.Core.Bool.{Bool, true, false}
 use native.Mathlib.Omega.{arith}
-use Rattle.isa.specs.declared.reader.Decoded.{Decoded}
+use Rattle.isa.specs.Answers.{Decoded}
 use Rattle.refusals.specs.declared.refusals.Unreadable.{Unreadable}
 use Rattle.event_log.specs.Log.{Log}
 use Rattle.machine_state.specs.Slot.{is_running}
@@ -35,7 +36,7 @@ pub record Going (p : ℕ) (r : SlotRun) : Type 0 where
   pub ip : r.slot.ip.0 ≡ p
 
 module _ (x : Script) (enable : Bool) (log : Log) {p : ℕ} {r : SlotRun} (g : Going p r) where
-  pub refuses : (why : Unreadable) → fetch_at x p ≡ Decoded.Refused why
+  pub refuses : (why : Unreadable) → fetch_at x p ≡ Err why
       → next_slot_step (script_scene x enable log) r ≡ unfetched x.family r.slot r.flags r.place why
   refuses why e = simp (g.runs, g.ip, e)
 

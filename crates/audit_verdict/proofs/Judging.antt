@@ -1,4 +1,5 @@
 -- What each judgement of the auditor says of the action it judges: the one case split over actions that looks at `judge_of`. Assumes nothing.
+use Rattle.std.specs.Prelude.{Some, None}
 use Prim.Native.Nat.{ℕ}
 use mathlib.Core.Path.{◌≡◌, refl, sym, ap, ◌∙◌}
 use mathlib.Core.Bool.{Bool, true, false, ◌&&◌}
@@ -23,19 +24,19 @@ use Rattle.audit_verdict.proofs.Cases.{never}
 
 -- what ADDR holds: what the script has set, or else what the start had
 abbrev pub held_addr : KnownAddress → ℕ → ℕ
-held_addr KnownAddress.Unset start = start
-held_addr (KnownAddress.At address) start = address.0
+held_addr None start = start
+held_addr (Some address) start = address.0
 
 -- an address that is not known is none
-nowhere : {A : Type 0} {address : MmioAddress} → KnownAddress.Unset ≡ KnownAddress.At address → A
+nowhere : {A : Type 0} {address : MmioAddress} → None ≡ Some address → A
 nowhere e = never (cc)
 
 -- a poke goes where the auditor says
 pub poke_addr : (part : Part) (word start addr : ℕ) (address : MmioAddress) (known : KnownAddress)
-    → target_of part word known ≡ KnownAddress.At address → addr ≡ held_addr known start → merge_of part addr word ≡ address.0
+    → target_of part word known ≡ Some address → addr ≡ held_addr known start → merge_of part addr word ≡ address.0
 poke_addr Part.Whole word start addr address known t e = ap (λ (k : KnownAddress). held_addr k 0) t
-poke_addr Part.Low word start addr address KnownAddress.Unset t e = nowhere t
-poke_addr Part.Low word start addr address (KnownAddress.At a) t e = rw e (ap (λ (k : KnownAddress). held_addr k 0) t)
+poke_addr Part.Low word start addr address None t e = nowhere t
+poke_addr Part.Low word start addr address (Some a) t e = rw e (ap (λ (k : KnownAddress). held_addr k 0) t)
 
 module _ (family : ℕ) (ranges : List ℕ) where
   -- the run goes on, as the auditor has it, and writes only where it may, and the same whatever ADDR and DATA held at the start
@@ -54,12 +55,12 @@ module _ (family : ℕ) (ranges : List ℕ) where
   Blame action k Fault.PastRam = ⊥
   Blame action k Fault.NotUploaded = ⊥
   Blame action k Fault.Unknown = ⊥
-  Blame action k Fault.NoAddress = (word : ℕ) × (action ≡ Action.Poke Part.Low word) × (k.addr ≡ KnownAddress.Unset)
+  Blame action k Fault.NoAddress = (word : ℕ) × (action ≡ Action.Poke Part.Low word) × (k.addr ≡ None)
   Blame action k Fault.HalfData =
-      (part : Part) × (word : ℕ) × (address : MmioAddress) × (action ≡ Action.Poke part word) × (target_of part word k.addr ≡ KnownAddress.At address)
+      (part : Part) × (word : ℕ) × (address : MmioAddress) × (action ≡ Action.Poke part word) × (target_of part word k.addr ≡ Some address)
       × (k.«data» ≡ false)
   Blame action k Fault.Outside =
-      (part : Part) × (word : ℕ) × (address : MmioAddress) × (action ≡ Action.Poke part word) × (target_of part word k.addr ≡ KnownAddress.At address)
+      (part : Part) × (word : ℕ) × (address : MmioAddress) × (action ≡ Action.Poke part word) × (target_of part word k.addr ≡ Some address)
       × (k.«data» ≡ true) × (listed_in ranges address.0 ≡ false)
   Blame action k Fault.Unreleased = (event : ℕ) × (value : ℕ) × (action ≡ Action.Ewait event value) × (can_release event value ≡ false)
   Blame action k Fault.Paused = (action ≡ Action.Exit) × ((pauses_memory family && k.paused) ≡ true)
@@ -71,14 +72,14 @@ module _ (family : ℕ) (ranges : List ℕ) where
   Why action k (Judgement.Bad fault) = Blame action k fault
 
   -- what is to be shown of each judgement
-  no_address : (word : ℕ) (k : Knowledge) → k.addr ≡ KnownAddress.Unset → Blame (Action.Poke Part.Low word) k Fault.NoAddress
+  no_address : (word : ℕ) (k : Knowledge) → k.addr ≡ None → Blame (Action.Poke Part.Low word) k Fault.NoAddress
   no_address word k unset = (word, refl, unset)
 
-  half_data : (part : Part) (word : ℕ) (k : Knowledge) (address : MmioAddress) → target_of part word k.addr ≡ KnownAddress.At address
+  half_data : (part : Part) (word : ℕ) (k : Knowledge) (address : MmioAddress) → target_of part word k.addr ≡ Some address
       → k.«data» ≡ false → Blame (Action.Poke part word) k Fault.HalfData
   half_data part word k address t d = (part, word, address, refl, t, d)
 
-  outside : (part : Part) (word : ℕ) (k : Knowledge) (address : MmioAddress) → target_of part word k.addr ≡ KnownAddress.At address
+  outside : (part : Part) (word : ℕ) (k : Knowledge) (address : MmioAddress) → target_of part word k.addr ≡ Some address
       → k.«data» ≡ true → listed_in ranges address.0 ≡ false → Blame (Action.Poke part word) k Fault.Outside
   outside part word k address t d l = (part, word, address, refl, t, d, l)
 
@@ -93,13 +94,13 @@ module _ (family : ℕ) (ranges : List ℕ) where
 
   why_poke : (part : Part) (word : ℕ) (k : Knowledge) (target : KnownAddress) → target_of part word k.addr ≡ target
       → (halves : Bool) → k.«data» ≡ halves → Why (Action.Poke part word) k (judge_poke ranges target halves)
-  why_poke Part.Whole word k KnownAddress.Unset t halves d = never (cc)
-  why_poke Part.Low word k KnownAddress.Unset t halves d = no_address word k (unset k.addr t)
+  why_poke Part.Whole word k None t halves d = never (cc)
+  why_poke Part.Low word k None t halves d = no_address word k (unset k.addr t)
     where
-      unset : (known : KnownAddress) → target_of Part.Low word known ≡ KnownAddress.Unset → known ≡ KnownAddress.Unset
-      unset KnownAddress.Unset t = refl
-      unset (KnownAddress.At address) t = never (cc)
-  why_poke part word k (KnownAddress.At address) t true d =
+      unset : (known : KnownAddress) → target_of Part.Low word known ≡ None → known ≡ None
+      unset None t = refl
+      unset (Some address) t = never (cc)
+  why_poke part word k (Some address) t true d =
       cond_elim (Why (Action.Poke part word) k) (listed_in ranges address.0)
       (λ l. record {
         goes = refl;
@@ -111,7 +112,7 @@ module _ (family : ℕ) (ranges : List ℕ) where
             rw (poke_addr part word start addr address k.addr t e, poke_addr part word start' addr' address k.addr t e', same d) refl;
       })
       (λ l. outside part word k address t d l)
-  why_poke part word k (KnownAddress.At address) t false d = half_data part word k address t d
+  why_poke part word k (Some address) t false d = half_data part word k address t d
 
   pub explain : (action : Action) (k : Knowledge) → Why action k (judge_of family ranges action k)
   explain (Action.Wait n) k =

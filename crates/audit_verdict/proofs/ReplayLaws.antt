@@ -1,4 +1,5 @@
 -- A start's slot runs as replay does, so replay answers what the start's steps give. Assumes nothing.
+use Rattle.std.specs.Prelude.{Ok}
 use Prim.Native.Nat.{ℕ, ◌^◌, ◌<◌}
 use mathlib.Core.Path.{◌≡◌, ap, ap₂, sym, ◌∙◌}
 use mathlib.Core.Bool.{Bool, true}
@@ -39,6 +40,6 @@ replay_tells x fits name s start log valid lent enough =
     ap (λ (enable : Bool). full_slot_run (script_scene x enable log) (slot_given x given) (flags_given given)) start.enabled
     ∙ ap₂ (full_slot_run (scene_under x log)) slot (words_back s.flags start.in_type.values)
     ∙ sym shows in (
-      simp (takes, le-leb max_entries lent enough, valid) (ap (λ (r : SlotRun). ReplayAnswer.Ended (told_of log.clocks (progress_of r))) same),
+      simp (takes, le-leb max_entries lent enough, valid) (ap (λ (r : SlotRun). Ok (told_of log.clocks (progress_of r))) same),
       ap (λ (r : SlotRun). r.writes) same,
     )

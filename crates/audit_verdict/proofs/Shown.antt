@@ -1,4 +1,5 @@
 -- The log made for the auditor's walk shows the verdict, from every start. Assumes nothing.
+use Rattle.std.specs.Prelude.{Err, Some, None}
 use Prim.Native.Nat.{ℕ, suc, ◌+◌, ◌/◌, ◌<◌}
 use mathlib.Core.Path.{◌≡◌, refl, sym, ap, subst, ◌∙◌}
 use mathlib.Core.Logic.{inl, inr}
@@ -10,7 +11,7 @@ use lib.ListN.{length, length-map}
 use borrow.Author.Tests.{lt-ltb}
 use Rattle.families.specs.Family.{known_family, pauses_memory}
 use Rattle.isa.specs.declared.addresses.MmioAddress.{MmioAddress}
-use Rattle.isa.specs.declared.reader.Decoded.{Decoded}
+use Rattle.isa.specs.Answers.{Decoded}
 use Rattle.refusals.specs.declared.refusals.Fault.{Fault}
 use Rattle.refusals.specs.declared.refusals.Unreadable.{Unreadable}
 use Rattle.isa_fetch.proofs.Places.{fetch_lies}
@@ -138,7 +139,7 @@ module _ {x : Script} {ranges : List ℕ} (fit : Auditable x) {q : ℕ} {k : Kno
     does : {t : SlotStep} → next_slot_step scene run_of_slot ≡ t → effect ≡ t.effect
     does e = effect_follows start fit.fits log (witness_valid w) steps ∙ ap (λ (t : SlotStep). t.effect) e
 
-    stops : (why : Unreadable) → fetch_at x q ≡ Decoded.Refused why
+    stops : (why : Unreadable) → fetch_at x q ≡ Err why
         → effect ≡ (unfetched x.family run_of_slot.slot run_of_slot.flags run_of_slot.place why).effect
     stops why e = does (refuses x true log agrees.going why e)
 
@@ -157,7 +158,7 @@ module _ {x : Script} {ranges : List ℕ} (fit : Auditable x) {q : ℕ} {k : Kno
     exited e = subst (Exited x ranges q k) (sym after) (exit_step x ranges log e agrees)
 
     -- what it writes at an address with, and a word with, the start's own high half
-    own_addr : {m : ℕ} (operand : ℕ) → Reads x q (Action.Poke Part.Low operand) m → k.addr ≡ KnownAddress.Unset
+    own_addr : {m : ℕ} (operand : ℕ) → Reads x q (Action.Poke Part.Low operand) m → k.addr ≡ None
         → (address : ℕ) × (word : ℕ) × (effect ≡ Effect.Wrote (record { 0 = address }) word) × (address / 65536 ≡ (slot_of s name).addr.0 / 65536)
     own_addr operand e unset =
         let held = agrees.held ∙ ap (λ (known : KnownAddress). held_addr known (slot_of s name).addr.0) unset in
@@ -169,7 +170,7 @@ module _ {x : Script} {ranges : List ℕ} (fit : Auditable x) {q : ℕ} {k : Kno
 
     -- a poke whose address the script has set goes there
     pokes_at : {m : ℕ} (part : Part) (operand : ℕ) (address : MmioAddress) → Reads x q (Action.Poke part operand) m
-        → target_of part operand k.addr ≡ KnownAddress.At address
+        → target_of part operand k.addr ≡ Some address
         → effect ≡ Effect.Wrote (record { 0 = address.0 }) run_of_slot.slot.«data»
     pokes_at part operand address e t =
         pokes part operand e
@@ -194,7 +195,7 @@ module _ {x : Script} {ranges : List ℕ} (fit : Auditable x) {q : ℕ} {k : Kno
 
     -- with ADDR set by the script every start writes at one address, and with DATA set too one word
     module _ {m : ℕ} (part : Part) (operand : ℕ) (address : MmioAddress) (e : Reads x q (Action.Poke part operand) m)
-        (t : target_of part operand k.addr ≡ KnownAddress.At address) where
+        (t : target_of part operand k.addr ≡ Some address) where
       pub one_address : OneAddress x (witness start)
       one_address = (address.0, λ name' s' other. ((run_of_slot other).slot.«data», pokes_at other part operand address e t))
 
@@ -229,7 +230,7 @@ module _ {x : Script} {ranges : List ℕ} (fit : Auditable x) {q : ℕ} {k : Kno
   DifferIn = Differ x log (witness_valid w) (witness_masks w) steps q
 
   module _ {name : SlotName} {s : State} (start : Start x name s) where
-    addr_differs : {m : ℕ} (operand : ℕ) → Reads x q (Action.Poke Part.Low operand) m → k.addr ≡ KnownAddress.Unset
+    addr_differs : {m : ℕ} (operand : ℕ) → Reads x q (Action.Poke Part.Low operand) m → k.addr ≡ None
         → DifferIn name (with_addr name s 0) (with_addr name s 65536)
     addr_differs operand e unset =
         let one = start_addr start 0 (lit< tt) in
@@ -257,7 +258,7 @@ module _ {x : Script} {ranges : List ℕ} (fit : Auditable x) {q : ℕ} {k : Kno
     SeesIt = Sees x log (witness_valid w) (witness_masks w) steps ranges start q
 
     -- the fetch fails
-    pub refused_sees : (why : Unreadable) → fetch_at x q ≡ Decoded.Refused why → SeesIt (fault_of why)
+    pub refused_sees : (why : Unreadable) → fetch_at x q ≡ Err why → SeesIt (fault_of why)
     refused_sees Unreadable.Family e =
         let unknown : known_family x.family ≡ false = rw e at (fetch_lies x.family x.code x.marks q) in
         never (cc fit.fits.known)

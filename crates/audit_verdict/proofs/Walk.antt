@@ -1,4 +1,5 @@
 -- The auditor's walk as a derivation, free of its count of what is left: the one thing that every claim is an induction on. Assumes nothing.
+use Rattle.std.specs.Prelude.{Ok, Err}
 use Prim.Native.Nat.{ℕ, zero, suc, ◌+◌, ◌^◌, ◌≤◌, ◌<◌}
 use mathlib.Core.Path.{◌≡◌, refl, ap}
 use mathlib.Core.Bool.{false, ◌&&◌}
@@ -9,7 +10,7 @@ use lib.ListN.{length, get_or}
 use borrow.Author.Tests.{eq-eqb, ne_eqb}
 use Rattle.families.specs.Family.{code_size, pauses_memory}
 use Rattle.isa.specs.declared.instructions.Instruction.{Instruction}
-use Rattle.isa.specs.declared.reader.Decoded.{Decoded}
+use Rattle.isa.specs.Answers.{Decoded}
 use Rattle.refusals.specs.declared.refusals.Unreadable.{Unreadable}
 use Rattle.isa_fetch.proofs.Places.{fetch_past}
 use Rattle.machine_actions.specs.Action.{action_of}
@@ -34,7 +35,7 @@ module _ (x : Script) (ranges : List ℕ) where
 
   -- how it ends
   pub data Ends : ℕ → Knowledge → Verdict → Type 0 where
-    at_refused : {p : ℕ} {k : Knowledge} (why : Unreadable) → fetch_at x p ≡ Decoded.Refused why → Ends p k (fault_at (fault_of why) p)
+    at_refused : {p : ℕ} {k : Knowledge} (why : Unreadable) → fetch_at x p ≡ Err why → Ends p k (fault_at (fault_of why) p)
     at_bad : {p : ℕ} {k : Knowledge} (action : Action) (n : ℕ) (fault : Fault)
         → Reads x p action n → Blame x.family ranges action k fault → Ends p k (fault_at fault p)
     at_exit : {p : ℕ} {k : Knowledge} (n : ℕ) → Reads x p Action.Exit n → (pauses_memory x.family && k.paused) ≡ false → Ends p k (pass_at p k)
@@ -102,7 +103,7 @@ module _ (x : Script) (ranges : List ℕ) where
       Later : Action → ℕ → Type 0
       Later action n = WalkedTo (p + n) (know_next action k) (verdict left (p + n) (know_next action k))
 
-      judged : (i : Instruction) (n : ℕ) → Reads x p (action_of i) n → fetch_at x p ≡ Decoded.Instruction i n → Later (action_of i) n
+      judged : (i : Instruction) (n : ℕ) → Reads x p (action_of i) n → fetch_at x p ≡ Ok (i, n) → Later (action_of i) n
           → (j : Judgement) → judge_of x.family ranges (action_of i) k ≡ j → Why x.family ranges (action_of i) k j → WalkedTo p k (verdict (suc left) p k)
       judged i n e f w Judgement.Fine j y = rw (walk_fine x ranges left p k i n f j) (on (action_of i) n e y w)
       judged i n e f w Judgement.Exit j y = rw (walk_exit x ranges left p k i n f j) (at_once (at_exit n (rw y.0 at e) y.1))
@@ -110,7 +111,7 @@ module _ (x : Script) (ranges : List ℕ) where
 
       by : ((action : Action) (n : ℕ) → code_size x.family ≤ p + n + left → Later action n)
           → (d : Decoded) → fetch_at x p ≡ d → WalkedTo p k (verdict (suc left) p k)
-      by w (Decoded.Instruction i n) e =
+      by w (Ok (i, n)) e =
           let r = fetch_reads x bytes p i n e in
           judged i n r e (w (action_of i) n (omega arith)) (judge_of x.family ranges (action_of i) k) refl (explain x.family ranges (action_of i) k)
-      by w (Decoded.Refused why) e = rw (walk_none x ranges left p k why e) (at_once (at_refused why e))
+      by w (Err why) e = rw (walk_none x ranges left p k why e) (at_once (at_refused why e))

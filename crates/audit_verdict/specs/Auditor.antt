@@ -1,8 +1,8 @@
 -- What the auditor says (01, "What the auditor says").
-use Rattle.std.specs.Prelude.{ℕ, zero, suc, ◌+◌, ◌≡◌, Bool, true, false, cond, ◌&&◌, List, ltb, eqb}
+use Rattle.std.specs.Prelude.{ℕ, zero, suc, ◌+◌, ◌≡◌, Bool, true, false, cond, ◌&&◌, List, ltb, eqb, Ok, Err, Some, None}
 use Rattle.refusals.specs.Number.{fault_number}
 use Rattle.families.specs.Family.{code_size, pauses_memory}
-use Rattle.isa.specs.declared.reader.Decoded.{Decoded}
+use Rattle.isa.specs.Answers.{Decoded}
 use Rattle.refusals.specs.declared.refusals.Unreadable.{Unreadable}
 use Rattle.machine_actions.specs.Action.{action_of, merge_of}
 use Rattle.machine_actions.specs.declared.actions.Action.{Action}
@@ -32,14 +32,14 @@ fault_of Unreadable.NotUploaded = Fault.NotUploaded
 
 -- where a poke goes, as far as this script has said: an addrlo with no addr before it goes nowhere known
 abbrev pub target_of : Part → ℕ → KnownAddress → KnownAddress
-target_of Part.Whole word known = KnownAddress.At (record { 0 = word })
-target_of Part.Low word KnownAddress.Unset = KnownAddress.Unset
-target_of Part.Low word (KnownAddress.At address) = KnownAddress.At (record { 0 = merge_of Part.Low address.0 word })
+target_of Part.Whole word known = Some (record { 0 = word })
+target_of Part.Low word None = None
+target_of Part.Low word (Some address) = Some (record { 0 = merge_of Part.Low address.0 word })
 
 -- a poke: 4, 5, 6 in this order
 abbrev pub judge_poke : List ℕ → KnownAddress → Bool → Judgement
-judge_poke ranges KnownAddress.Unset halves = Judgement.Bad Fault.NoAddress
-judge_poke ranges (KnownAddress.At address) halves =
+judge_poke ranges None halves = Judgement.Bad Fault.NoAddress
+judge_poke ranges (Some address) halves =
     cond halves (cond (listed_in ranges address.0) Judgement.Fine (Judgement.Bad Fault.Outside)) (Judgement.Bad Fault.HalfData)
 
 -- events are 0 to 31, readings 0 or 1
@@ -124,7 +124,7 @@ know_next action k = record {
 }
 
 abbrev pub know_nothing : Knowledge
-know_nothing = record { addr = KnownAddress.Unset; «data» = false; paused = false; count = 0; writes = 0; clocks = 0 }
+know_nothing = record { addr = None; «data» = false; paused = false; count = 0; writes = 0; clocks = 0 }
 
 -- ---- the walk from the entry to the first exit
 
@@ -139,12 +139,12 @@ fault_at fault at = Verdict.Fault fault (record { 0 = at })
 unfoldable pub verdict_in : ℕ → Script → List ℕ → ℕ → Knowledge → Verdict
 verdict_in zero script ranges at k = fault_at Fault.PastRam at
 verdict_in (suc left) script ranges at k = elim (fetch_at script at) [
-  | Decoded.Instruction i n ↦ elim (judge_of script.family ranges (action_of i) k) [
+  | Ok (i, n) ↦ elim (judge_of script.family ranges (action_of i) k) [
     | Judgement.Fine ↦ verdict_in left script ranges (at + n) (know_next (action_of i) k)
     | Judgement.Exit ↦ pass_at at k
     | Judgement.Bad fault ↦ fault_at fault at
   ]
-  | Decoded.Refused why ↦ fault_at (fault_of why) at
+  | Err why ↦ fault_at (fault_of why) at
 ]
 
 -- the whole walk, in which each instruction takes a byte of the code RAM at least

@@ -1,5 +1,5 @@
 -- Demand 3: what a verdict of the auditor means for whole runs. One claim, `Demand3`, about every verdict.
-use Rattle.std.specs.Prelude.{ℕ, suc, ◌+◌, ◌≤◌, ◌<◌, ◌≡◌, ◌⊎◌, Bool, true, false, List, [], ◌∷◌, length}
+use Rattle.std.specs.Prelude.{ℕ, suc, ◌+◌, ◌≤◌, ◌<◌, ◌≡◌, ◌⊎◌, Bool, true, false, List, [], ◌∷◌, length, Ok}
 use Rattle.families.specs.Family.{code_size}
 use Rattle.refusals.specs.declared.refusals.Unreadable.{Unreadable}
 use Rattle.event_log.specs.Log.{Log}
@@ -97,7 +97,7 @@ module _ (script : Script) where
   -- replay with a start's registers, with entries enough lent, tells the run's own ending, state, place, steps and sums, and its writes in order
   abbrev pub ReplayTells : SlotName → State → Log → ℕ → Type 0
   ReplayTells name s log lent =
-      (replay_of script (registers_in name s) log lent ≡ ReplayAnswer.Ended (told_of log.clocks (progress_of (slot_run_of name (full_run name log s)))))
+      (replay_of script (registers_in name s) log lent ≡ Ok (told_of log.clocks (progress_of (slot_run_of name (full_run name log s)))))
       × ((replayed_run script (registers_in name s) log).writes ≡ (full_run name log s).writes)
 
   -- of every start and every log

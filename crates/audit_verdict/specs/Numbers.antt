@@ -1,9 +1,9 @@
 -- Which number the auditor's verdict must have (01, "What the auditor says"): its table as tests in their order at one place, over what the script did
 -- before that place. Nothing here is what the auditor keeps of it.
-use Rattle.std.specs.Prelude.{ℕ, zero, suc, ◌+◌, Bool, true, false, cond, not, ◌&&◌, ◌||◌, List, [], ◌∷◌, ◌++◌, ltb, eqb}
+use Rattle.std.specs.Prelude.{ℕ, zero, suc, ◌+◌, Bool, true, false, cond, not, ◌&&◌, ◌||◌, List, [], ◌∷◌, ◌++◌, ltb, eqb, Ok, Err}
 use Rattle.families.specs.Family.{code_size, pauses_memory}
 use Rattle.refusals.specs.Listing.{Test, test, first_of}
-use Rattle.isa.specs.declared.reader.Decoded.{Decoded}
+use Rattle.isa.specs.Answers.{Decoded}
 use Rattle.isa_fetch.specs.Fetch.{fetch_tests}
 use Rattle.machine_flags.specs.Flags.{fb_pause}
 use Rattle.machine_actions.specs.Action.{action_of}
@@ -83,8 +83,8 @@ action_tests family ranges before Action.Exit = test (pauses_memory family && le
 
 -- of what was fetched
 abbrev pub found_tests : ℕ → List ℕ → List Action → Decoded → List Test
-found_tests family ranges before (Decoded.Instruction i n) = action_tests family ranges before (action_of i)
-found_tests family ranges before (Decoded.Refused why) = []
+found_tests family ranges before (Ok (i, n)) = action_tests family ranges before (action_of i)
+found_tests family ranges before (Err why) = []
 
 -- "At one place: first byte 1, 2, 3, then operands 1, 2, then 4, 5, 6"
 abbrev pub tests_at : Script → List ℕ → List Action → ℕ → List Test
@@ -99,9 +99,9 @@ number_in zero script ranges before at = 1
 number_in (suc left) script ranges before at =
     let number = first_of (tests_at script ranges before at) in
     let later : ℕ = elim (fetch_at script at) [
-      | Decoded.Instruction i n ↦ cond (is_exit (action_of i)) 0 (number_in left script ranges (action_of i ∷ before) (at + n))
+      | Ok (i, n) ↦ cond (is_exit (action_of i)) 0 (number_in left script ranges (action_of i ∷ before) (at + n))
       -- a test of the fetch failed
-      | Decoded.Refused why ↦ 0
+      | Err why ↦ 0
     ] in
     cond (eqb number 0) later number
 

@@ -1,5 +1,5 @@
 -- The starred scripts of 01, "Scripts on both sides of the line": one table of what auditor and replay say of them.
-use Rattle.std.specs.Prelude.{ℕ, ◌-◌, ◌≡◌, true, List, [], ◌∷◌, ◌++◌, length, replicate}
+use Rattle.std.specs.Prelude.{ℕ, ◌-◌, ◌≡◌, true, List, [], ◌∷◌, ◌++◌, length, replicate, Ok, Err}
 use Rattle.families.specs.Family.{code_size}
 use Rattle.event_log.specs.Log.{log_of}
 use Rattle.refusals.specs.Number.{fault_number}
@@ -40,8 +40,8 @@ replay_on known values =
     replay_of (script_on 2 (0x5f ∷ 0x01 ∷ 0x00 ∷ 0x7f ∷ []) 0) (registers_of 0 0 0 0 true) (log_of (1 ∷ []) (known ∷ []) (values ∷ [])) max_entries
 
 abbrev pub ends : ReplayAnswer → Ending → Type 0
-ends (ReplayAnswer.Ended told) ending = told.ending ≡ ending
-ends (ReplayAnswer.Refused why) ending = ⊥
+ends (Ok told) ending = told.ending ≡ ending
+ends (Err why) ending = ⊥
 
 abbrev pub Starred : Type 0
 Starred = passes (verdict_on 1 (0x7f ∷ []) 0 []) 0 1 0

@@ -1,7 +1,7 @@
 -- The log that shows a verdict, and what it shows from every start. 01 asks that some log be there; this one is our choice (docs/LIBRARY.md).
-use Rattle.std.specs.Prelude.{ℕ, zero, suc, ◌+◌, ◌*◌, ◌/◌, ◌^◌, ◌≤◌, ◌≡◌, ◌⊎◌, Bool, true, false, cond, List, [], ◌∷◌, ◌++◌, eqb, length}
+use Rattle.std.specs.Prelude.{ℕ, zero, suc, ◌+◌, ◌*◌, ◌/◌, ◌^◌, ◌≤◌, ◌≡◌, ◌⊎◌, Bool, true, false, cond, List, [], ◌∷◌, ◌++◌, eqb, length, Ok, Err}
 use Rattle.families.specs.Family.{code_size}
-use Rattle.isa.specs.declared.reader.Decoded.{Decoded}
+use Rattle.isa.specs.Answers.{Decoded}
 use Rattle.refusals.specs.Number.{fault_number}
 use Rattle.refusals.specs.declared.refusals.Fault.{Fault}
 use Rattle.refusals.specs.declared.refusals.Unreadable.{Unreadable}
@@ -73,8 +73,8 @@ writes_over (action ∷ actions) = poke_count action + writes_over actions
 unfoldable pub actions_to : ℕ → Script → ℕ → ℕ → List Action
 actions_to zero script place at = []
 actions_to (suc left) script place at = cond (eqb at place) [] (elim (fetch_at script at) [
-  | Decoded.Instruction i n ↦ action_of i ∷ actions_to left script place (at + n)
-  | Decoded.Refused why ↦ []
+  | Ok (i, n) ↦ action_of i ∷ actions_to left script place (at + n)
+  | Err why ↦ []
 ])
 
 -- a verdict's place: where the script exits, or the fault's

@@ -3,4 +3,4 @@
 
 mod verdicts;
 
-pub use verdicts::{Judgement, Knowledge, KnownAddress, Verdict};
+pub use verdicts::{Judgement, Knowledge, Verdict};

@@ -17,17 +17,11 @@ pub enum Verdict {
     Fault(Fault, CodeAddress),
 }
 
-// What ADDR holds, where the script has set it.
-#[derive(Clone, Copy)]
-pub enum KnownAddress {
-    Unset,
-    At(MmioAddress),
-}
-
 // What is known at a place of the script.
 #[derive(Clone, Copy)]
 pub struct Knowledge {
-    pub addr: KnownAddress,
+    // what ADDR holds, where the script has set it
+    pub addr: Option<MmioAddress>,
     // whether both halves of DATA are set
     pub data: bool,
     // whether the last touch of flag 16 was set1

@@ -1,4 +1,5 @@
 -- What `witness` answers, case by case. Assumes nothing.
+use Rattle.std.specs.Prelude.{Ok, Err}
 use Prim.Native.Nat.{ℕ, ◌+◌, ◌≤◌, ◌<◌}
 use mathlib.Core.Path.{◌≡◌, refl, ap, subst}
 use mathlib.Core.Logic.{⊎_elim}
@@ -77,7 +78,7 @@ module _ (x : Script) (ranges : List ℕ) where
 
   module _ (lent : Log) where
     abbrev Refuses : Unshowable → Type 0
-    Refuses why = Witnesses x ranges lent lent (WitnessAnswer.Refused why)
+    Refuses why = Witnesses x ranges lent lent (Err why)
 
     pub refuses_input : input_fits x ranges ≡ false → Refuses Unshowable.Input
     unfolding witness_of witness_refusal
@@ -97,7 +98,7 @@ module _ (x : Script) (ranges : List ℕ) where
       rows_fit = omega (arith, f.counted, length-map (rows x ranges lent) (λ (row : Row). row.clocks), shown.few)
 
       pub answers : Witnesses x ranges lent new
-          (WitnessAnswer.Shown (record { verdict = v; rows = made.before + 1; steps = made.steps; writes = made.writes }))
+          (Ok (record { verdict = v; rows = made.before + 1; steps = made.steps; writes = made.writes }))
       unfolding witness_of witness_refusal
       answers = let r = has_room lent long in record {
         answered = rw (a.answered, f.counted, f.stepped, f.wrote, i, r) refl;

@@ -1,4 +1,5 @@
 -- The log that is made row by row, against the rows that the script's way asks for. Assumes nothing.
+use Rattle.std.specs.Prelude.{Ok, Err}
 use Prim.Native.Nat.{ℕ, ◌+◌, ◌*◌, ◌^◌, ◌≤◌, ◌<◌}
 use mathlib.Core.Path.{◌≡◌, refl, sym, ap, ap₂, subst, ◌∙◌}
 use mathlib.Core.Bool.{true, false}
@@ -10,7 +11,7 @@ use denote.Enum.Declared.{tag_of}
 use types.Run.{OneOf}
 use Rattle.families.specs.Family.{code_size}
 use Rattle.isa.specs.declared.instructions.Instruction.{Instruction}
-use Rattle.isa.specs.declared.reader.Decoded.{Decoded}
+use Rattle.isa.specs.Answers.{Decoded}
 use Rattle.families.proofs.Tests.{both_left}
 use Rattle.refusals.specs.declared.refusals.Unreadable.{Unreadable}
 use Rattle.isa_fetch.proofs.Places.{size_small}
@@ -88,7 +89,7 @@ module _ {x : Script} {ranges : List ℕ} where
     is : actions_of w ≡ action ∷ actions_of rest
 
   next_of : {p q : ℕ} {k l : Knowledge} (w : Walk x ranges p k q l) → (p ≡ q → ⊥) → (i : Instruction) (n : ℕ)
-      → fetch_at x p ≡ Decoded.Instruction i n → Next w (action_of i) n
+      → fetch_at x p ≡ Ok (i, n) → Next w (action_of i) n
   next_of here apart i n f = absurd (apart refl)
   next_of (further action m e g w) apart i n f =
       let which : i ≡ e.instruction = cc e.found in
@@ -96,7 +97,7 @@ module _ {x : Script} {ranges : List ℕ} where
       let acts : action_of i ≡ action = ap action_of which ∙ e.acts in
       rw (acts, size) (record { reads = e; fine = g; rest = w; is = refl })
 
-  pub never_refused : {p q : ℕ} {k l : Knowledge} (w : Walk x ranges p k q l) → (p ≡ q → ⊥) → (why : Unreadable) → fetch_at x p ≡ Decoded.Refused why → ⊥
+  pub never_refused : {p q : ℕ} {k l : Knowledge} (w : Walk x ranges p k q l) → (p ≡ q → ⊥) → (why : Unreadable) → fetch_at x p ≡ Err why → ⊥
   never_refused here apart why f = apart refl
   never_refused (further action m e g w) apart why f = never (cc e.found)
 
@@ -197,7 +198,7 @@ module _ {x : Script} {ranges : List ℕ} {place : ℕ} {all : List Action} {len
       })
 
   -- before it one instruction more is done
-  module _ (apart : at ≡ place → ⊥) (i : Instruction) (n : ℕ) (f : fetch_at x at ≡ Decoded.Instruction i n) where
+  module _ (apart : at ≡ place → ⊥) (i : Instruction) (n : ℕ) (f : fetch_at x at ≡ Ok (i, n)) where
     abbrev action : Action
     action = action_of i
 

@@ -1,5 +1,5 @@
 -- What `witness` answers, what it leaves in the lent columns, and what these show.
-use Rattle.std.specs.Prelude.{ℕ, ◌≡◌, Bool, cond, not, ◌&&◌, List, leb, length}
+use Rattle.std.specs.Prelude.{ℕ, ◌≡◌, Bool, cond, not, ◌&&◌, List, leb, length, Ok, Err}
 use Rattle.refusals.specs.Number.{unshowable_number}
 use Rattle.refusals.specs.declared.refusals.Unshowable.{Unshowable}
 use Rattle.event_log.specs.Log.{Log}
@@ -20,8 +20,8 @@ lent_enough lent = leb max_shown (length lent.clocks) && (leb max_shown (length 
 
 -- the number that an answer stands for, 0 where a log was made
 abbrev pub witness_number : WitnessAnswer → ℕ
-witness_number (WitnessAnswer.Shown told) = 0
-witness_number (WitnessAnswer.Refused why) = unshowable_number why
+witness_number (Ok told) = 0
+witness_number (Err why) = unshowable_number why
 
 -- what a script does before its verdict's place
 abbrev pub way : Script → List ℕ → List Action
@@ -38,14 +38,14 @@ module _ (script : Script) (ranges : List ℕ) (lent : Log) where
   witness_of =
       cond (input_fits script ranges)
       (cond (lent_enough lent)
-      (WitnessAnswer.Shown (record {
+      (Ok (record {
         verdict = audit_of script ranges;
         rows = length rows;
         steps = length (way script ranges);
         writes = writes_over (way script ranges);
       }))
-      (WitnessAnswer.Refused Unshowable.Room))
-      (WitnessAnswer.Refused Unshowable.Input)
+      (Err Unshowable.Room))
+      (Err Unshowable.Input)
 
   -- which number an answer must have: 9 as the auditor's row says, 14 fewer than 171 entries, tested in this order
   unfoldable pub witness_refusal : ℕ
@@ -56,14 +56,14 @@ module _ (script : Script) (ranges : List ℕ) (lent : Log) where
 
   -- the columns after the answer: the log and then as lent, and after a refusal as lent
   abbrev pub columns_after : WitnessAnswer → Log
-  columns_after (WitnessAnswer.Shown told) = rows_into lent rows
-  columns_after (WitnessAnswer.Refused why) = lent
+  columns_after (Ok told) = rows_into lent rows
+  columns_after (Err why) = lent
 
   -- of the verdict all holds that the auditor promises, and the first entries of the columns show it, from every start
   abbrev pub ShowsIt : Log → WitnessAnswer → Type 0
-  ShowsIt new (WitnessAnswer.Shown told) = (Audits script ranges told.verdict)
+  ShowsIt new (Ok told) = (Audits script ranges told.verdict)
       × (ShownBy script ranges (first_rows told.rows new) told.steps told.writes told.verdict)
-  ShowsIt new (WitnessAnswer.Refused why) = Unit {0}
+  ShowsIt new (Err why) = Unit {0}
 
   -- what it promises of its answer and of the columns, lent and new
   pub record Witnesses (new : Log) (answer : WitnessAnswer) : Type 0 where

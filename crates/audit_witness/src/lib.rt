@@ -4,4 +4,4 @@
 mod rows;
 mod showing;
 
-pub use showing::{MAX_SHOWN, Shown, WitnessAnswer, witness};
+pub use showing::{MAX_SHOWN, Shown, witness};

@@ -1,7 +1,7 @@
 // The verdict, and the script's way to its place, written down as a log.
 ghost use Rattle.std.specs.Prelude.{◌≡◌, true, ◌≤◌, eqb, length};
 ghost use Rattle.event_log.specs.Log.{log_of};
-ghost use Rattle.script.specs.Script.{script_of};
+ghost use Rattle.script.specs.Script.{lent_script};
 ghost use Rattle.script.specs.Input.{input_fits};
 ghost use Rattle.audit_verdict.specs.Auditor.{verdict_number, audit_of};
 ghost use Rattle.audit_verdict.specs.Witness.{max_shown, place_of};
@@ -10,8 +10,9 @@ ghost use Rattle.audit_witness.specs.Witnesses.{way, Witnesses};
 
 use crate::rows::{Timeline, begin, extend, put_row};
 use audit_verdict::Verdict;
-use isa::{CodeAddress, Decoded};
+use isa::CodeAddress;
 use refusals::{Fault, Unshowable};
+use script::Script;
 
 // One row at the entry, and one for each ewait of three bytes.
 pub const MAX_SHOWN: usize = 171;
@@ -25,38 +26,27 @@ pub struct Shown {
     pub writes: usize,
 }
 
-#[derive(Clone, Copy)]
-pub enum WitnessAnswer {
-    Shown(Shown),
-    Refused(Unshowable),
-}
-
 // The verdict on a script, and a log that shows it in the first entries of the lent columns; the others stay as lent.
-pub fn witness<'a>(
-    family: u8,
-    code: &'a [u8],
-    marks: &'a [u8],
-    entry: CodeAddress,
-    ranges: &'a [u32],
+pub fn witness(
+    script: Script<'_>,
+    ranges: &[u32],
     clocks: &mut [u64],
     known: &mut [u32],
     values: &mut [u32],
-) -> WitnessAnswer
-    ensures { Witnesses (script_of family code.now marks.now entry.0) ranges.now
+) -> Result<Shown, Unshowable>
+    ensures { Witnesses (lent_script script.entry) ranges.now
         (log_of clocks.old known.old values.old) (log_of clocks.new known.new values.new) result }
 {
-    let verdict = audit_script::audit(family, code, marks, entry, ranges);
+    let verdict = audit_script::audit(script, ranges);
     if is_input(verdict) {
-        return WitnessAnswer::Refused(Unshowable::Input);
+        return Err(Unshowable::Input);
     }
     if clocks.len() < MAX_SHOWN || known.len() < MAX_SHOWN || values.len() < MAX_SHOWN {
-        return WitnessAnswer::Refused(Unshowable::Room);
+        return Err(Unshowable::Room);
     }
     let place = place_of(verdict);
-    let made = follow(
-        family, code, marks, entry, ranges, place, clocks, known, values,
-    );
-    WitnessAnswer::Shown(Shown {
+    let made = follow(script, ranges, place, clocks, known, values);
+    Ok(Shown {
         verdict,
         rows: made.before + 1,
         steps: made.steps,
@@ -68,13 +58,7 @@ pub fn witness<'a>(
 fn is_input(verdict: Verdict) -> bool
     ensures { result ≡ eqb (verdict_number verdict) 9 }
 {
-    match verdict {
-        Verdict::Pass { .. } => false,
-        Verdict::Fault(fault, _) => match fault {
-            Fault::Input => true,
-            _ => false,
-        },
-    }
+    matches!(verdict, Verdict::Fault(Fault::Input, _))
 }
 
 // Where the script exits, or the fault's place.
@@ -88,31 +72,27 @@ fn place_of(verdict: Verdict) -> CodeAddress
 }
 
 // From the entry to the place, with every row put into the lent columns.
-fn follow<'a>(
-    family: u8,
-    code: &'a [u8],
-    marks: &'a [u8],
-    entry: CodeAddress,
-    ranges: &'a [u32],
+fn follow(
+    script: Script<'_>,
+    ranges: &[u32],
     place: CodeAddress,
     clocks: &mut [u64],
     known: &mut [u32],
     values: &mut [u32],
 ) -> Timeline
-    requires { (input_fits (script_of family code.now marks.now entry.0) ranges.now ≡ true)
-        × (place.0 ≡ place_of (audit_of (script_of family code.now marks.now entry.0) ranges.now))
+    requires { (input_fits (lent_script script) ranges.now ≡ true)
+        × (place.0 ≡ place_of (audit_of (lent_script script) ranges.now))
         × (max_shown ≤ length clocks.old) × (max_shown ≤ length known.old) × (max_shown ≤ length values.old) }
-    ensures { Follows (way (script_of family code.now marks.now entry.0) ranges.now)
+    ensures { Follows (way (lent_script script.entry) ranges.now)
         (log_of clocks.old known.old values.old) (log_of clocks.new known.new values.new) result }
 {
-    let mut at = entry.0;
+    let mut at = script.entry.0;
     let mut made = begin();
     let last = loop {
         if at == place.0 {
             break made;
         }
-        let found = isa_fetch::fetch(family, code, marks, CodeAddress(at));
-        let Decoded::Instruction(instruction, length) = found else {
+        let Ok((instruction, length)) = script.ram.fetch(CodeAddress(at)) else {
             break made;
         };
         made = extend(
@@ -124,7 +104,6 @@ fn follow<'a>(
         );
         at += length;
     };
-    let row = last.row;
-    put_row(row, last.before, clocks, known, values);
+    put_row(last.row, last.before, clocks, known, values);
     last
 }

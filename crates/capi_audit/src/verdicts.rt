@@ -5,6 +5,8 @@ ghost use Rattle.capi_audit.specs.Verdicts.{audit_reply, HwsqAudit};
 
 use audit_verdict::Verdict;
 use isa::CodeAddress;
+use isa_fetch::CodeRam;
+use script::Script;
 
 #[repr(C)]
 #[derive(Clone, Copy)]
@@ -30,7 +32,15 @@ pub extern "C" fn hwsq_audit<'a>(
 ) -> AuditReply
     ensures { HwsqAudit (script_of family code.now marks.now entry) ranges.now result }
 {
-    audit_reply(audit_script::audit(family, code, marks, CodeAddress(entry), ranges))
+    let script = Script {
+        ram: CodeRam {
+            family,
+            code,
+            marks,
+        },
+        entry: CodeAddress(entry),
+    };
+    audit_reply(audit_script::audit(script, ranges))
 }
 
 fn audit_reply(verdict: Verdict) -> AuditReply

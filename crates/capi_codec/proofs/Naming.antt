@@ -5,7 +5,7 @@ use mathlib.Core.List.{List}
 use lib.ListN.{length}
 use Rattle.isa.specs.Codec.{Writes}
 use Rattle.isa.specs.declared.instructions.Instruction.{Instruction}
-use Rattle.isa.specs.declared.encoding.Encoded.{Encoded}
+use Rattle.isa.specs.Answers.{Encoded}
 use Rattle.capi_codec.specs.Encoding.{named_by, unnamed_number, wide_number, unwritten_reply, encoded_reply, encode_reply, WritesNamed, HwsqEncode}
 use Rattle.capi_codec.specs.declared.encoding.EncodeReply.{EncodeReply}
 use Rattle.capi_codec.specs.declared.encoding.Named.{Named}

@@ -3,7 +3,7 @@ use Prim.Native.Nat.{ℕ}
 use mathlib.Core.Path.{◌≡◌, ap, subst, ◌∙◌}
 use mathlib.Core.List.{List}
 use Rattle.isa.specs.Codec.{Reads}
-use Rattle.isa.specs.declared.reader.Decoded.{Decoded}
+use Rattle.isa.specs.Answers.{Decoded}
 use Rattle.capi_codec.specs.Decoding.{decode_reply, HwsqDecode}
 use Rattle.capi_codec.specs.declared.decoding.DecodeReply.{DecodeReply}
 

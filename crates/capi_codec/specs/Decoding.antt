@@ -1,10 +1,10 @@
 -- The reader's answer as numbers.
-use Rattle.std.specs.Prelude.{ℕ, ◌≡◌, List}
+use Rattle.std.specs.Prelude.{ℕ, ◌≡◌, List, Ok, Err}
 use Rattle.refusals.specs.Number.{unreadable_number}
 use Rattle.isa.specs.Reader.{decode_of}
 use Rattle.isa.specs.Codec.{Reads}
 use Rattle.isa.specs.declared.instructions.Instruction.{Instruction}
-use Rattle.isa.specs.declared.reader.Decoded.{Decoded}
+use Rattle.isa.specs.Answers.{Decoded}
 use Rattle.capi_codec.specs.declared.decoding.DecodeReply.{DecodeReply}
 
 abbrev pub decoded_reply : ℕ → ℕ → ℕ → ℕ → DecodeReply
@@ -27,8 +27,8 @@ instruction_reply (Instruction.Addr address) n = decoded_reply 9 address.0 0 n
 instruction_reply (Instruction.Data word) n = decoded_reply 10 word 0 n
 
 abbrev pub decode_reply : Decoded → DecodeReply
-decode_reply (Decoded.Instruction instruction n) = instruction_reply instruction n
-decode_reply (Decoded.Refused why) = unread_reply (unreadable_number why)
+decode_reply (Ok (instruction, n)) = instruction_reply instruction n
+decode_reply (Err why) = unread_reply (unreadable_number why)
 
 -- the reply tells the reader's answer, of which all holds that the reader promises
 pub record HwsqDecode (family : ℕ) (bytes : List ℕ) (reply : DecodeReply) : Type 0 where

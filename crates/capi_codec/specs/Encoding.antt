@@ -1,11 +1,11 @@
 -- The writer's instruction and answer as numbers.
-use Rattle.std.specs.Prelude.{ℕ, ◌≡◌, cond, List, length, ltb, leb, eqb}
+use Rattle.std.specs.Prelude.{ℕ, ◌≡◌, cond, List, length, ltb, leb, eqb, Ok, Err}
 use Rattle.families.specs.Family.{known_family}
 use Rattle.refusals.specs.Number.{unwritable_number}
 use Rattle.isa.specs.Writer.{encode_of}
 use Rattle.isa.specs.Codec.{Writes}
 use Rattle.isa.specs.declared.instructions.Instruction.{Instruction}
-use Rattle.isa.specs.declared.encoding.Encoded.{Encoded}
+use Rattle.isa.specs.Answers.{Encoded}
 use Rattle.capi_codec.specs.declared.encoding.EncodeReply.{EncodeReply}
 use Rattle.capi_codec.specs.declared.encoding.Named.{Named}
 
@@ -49,8 +49,8 @@ abbrev pub unwritten_reply : ℕ → EncodeReply
 unwritten_reply number = record { refusal = number; length = 0 }
 
 abbrev pub encoded_reply : Encoded → EncodeReply
-encoded_reply (Encoded.Length n) = record { refusal = 0; length = n }
-encoded_reply (Encoded.Refused why) = unwritten_reply (unwritable_number why)
+encoded_reply (Ok n) = record { refusal = 0; length = n }
+encoded_reply (Err why) = unwritten_reply (unwritable_number why)
 
 abbrev pub encode_reply : ℕ → Named → ℕ → EncodeReply
 encode_reply family (Named.Instruction instruction) lent = encoded_reply (encode_of family instruction lent)

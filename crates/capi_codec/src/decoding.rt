@@ -2,7 +2,8 @@
 ghost use Rattle.std.specs.Prelude.{◌≡◌};
 ghost use Rattle.capi_codec.specs.Decoding.{decoded_reply, instruction_reply, unread_reply, decode_reply, HwsqDecode};
 
-use isa::{Decoded, Instruction};
+use isa::Instruction;
+use refusals::Unreadable;
 
 #[repr(C)]
 #[derive(Clone, Copy)]
@@ -25,12 +26,12 @@ pub extern "C" fn hwsq_decode(family: u8, bytes: &[u8]) -> DecodeReply
     decode_reply(isa_reader::decode(family, bytes))
 }
 
-fn decode_reply(found: Decoded) -> DecodeReply
+fn decode_reply(found: Result<(Instruction, usize), Unreadable>) -> DecodeReply
     ensures { result ≡ decode_reply found }
 {
     match found {
-        Decoded::Instruction(instruction, length) => instruction_reply(instruction, length),
-        Decoded::Refused(why) => unread(u8::from(why)),
+        Ok((instruction, length)) => instruction_reply(instruction, length),
+        Err(why) => unread(u8::from(why)),
     }
 }
 

@@ -3,7 +3,8 @@ ghost use Rattle.std.specs.Prelude.{◌≡◌};
 ghost use Rattle.capi_codec.specs.Encoding.{capped_byte, named_half, named_ewait, named_by, unnamed_number, wide_number};
 ghost use Rattle.capi_codec.specs.Encoding.{unwritten_reply, encoded_reply, HwsqEncode};
 
-use isa::{Encoded, Instruction, MmioAddress};
+use isa::{Instruction, MmioAddress};
+use refusals::Unwritable;
 
 #[repr(C)]
 #[derive(Clone, Copy)]
@@ -14,10 +15,9 @@ pub struct EncodeReply {
     pub length: usize,
 }
 
-// What a kind and two operands name.
-#[derive(Clone, Copy)]
-pub enum Named {
-    Instruction(Instruction),
+// Why a kind and two operands name no instruction.
+#[derive(Clone, Copy, PartialEq, Eq, Debug)]
+pub enum Unnamed {
     // an operand that addrlo, datalo or ewait has no room for
     Wide,
     // no instruction has this kind
@@ -35,22 +35,19 @@ pub extern "C" fn hwsq_encode(
 ) -> EncodeReply
     ensures { HwsqEncode family kind first second out.old out.new result }
 {
-    let named = named_by(kind, first, second);
-    match named {
-        Named::Instruction(instruction) => {
-            encoded_reply(isa_writer::encode(family, instruction, out))
-        }
-        Named::Wide => unwritten(wide_number(family)),
-        Named::Unknown => unwritten(unnamed_number(family)),
+    match named_by(kind, first, second) {
+        Ok(instruction) => encoded_reply(isa_writer::encode(family, instruction, out)),
+        Err(Unnamed::Wide) => unwritten(wide_number(family)),
+        Err(Unnamed::Unknown) => unwritten(unnamed_number(family)),
     }
 }
 
-fn encoded_reply(answer: Encoded) -> EncodeReply
+fn encoded_reply(answer: Result<usize, Unwritable>) -> EncodeReply
     ensures { result ≡ encoded_reply answer }
 {
     match answer {
-        Encoded::Length(length) => EncodeReply { refusal: 0, length },
-        Encoded::Refused(why) => unwritten(u8::from(why)),
+        Ok(length) => EncodeReply { refusal: 0, length },
+        Err(why) => unwritten(u8::from(why)),
     }
 }
 
@@ -92,49 +89,49 @@ fn capped_byte(x: u32) -> u8
     if x < 256 { x as u8 } else { 255 }
 }
 
-fn named_ewait(event: u32, value: u8) -> Named
+fn named_ewait(event: u32, value: u8) -> Result<Instruction, Unnamed>
     ensures { result ≡ named_ewait event value }
 {
     if event < 256 {
-        Named::Instruction(Instruction::Ewait {
+        Ok(Instruction::Ewait {
             event: event as u8,
             value,
         })
     } else {
-        Named::Wide
+        Err(Unnamed::Wide)
     }
 }
 
-fn named_half(kind: u8, half: u32) -> Named
+fn named_half(kind: u8, half: u32) -> Result<Instruction, Unnamed>
     ensures { result ≡ named_half kind half }
 {
     if 65536 <= half {
-        Named::Wide
+        Err(Unnamed::Wide)
     } else if kind == 2 {
-        Named::Instruction(Instruction::AddrLo(half as u16))
+        Ok(Instruction::AddrLo(half as u16))
     } else {
-        Named::Instruction(Instruction::DataLo(half as u16))
+        Ok(Instruction::DataLo(half as u16))
     }
 }
 
 // An operand that the instruction lacks is not looked at.
-fn named_by(kind: u8, first: u32, second: u8) -> Named
+fn named_by(kind: u8, first: u32, second: u8) -> Result<Instruction, Unnamed>
     ensures { result ≡ named_by kind first second }
 {
     match kind {
-        1 => Named::Instruction(Instruction::Wait {
+        1 => Ok(Instruction::Wait {
             length: capped_byte(first),
             shift: second,
         }),
         2 => named_half(2, first),
         3 => named_half(3, first),
         4 => named_ewait(first, second),
-        5 => Named::Instruction(Instruction::Exit),
-        6 => Named::Instruction(Instruction::Unset(capped_byte(first))),
-        7 => Named::Instruction(Instruction::Set1(capped_byte(first))),
-        8 => Named::Instruction(Instruction::Set0(capped_byte(first))),
-        9 => Named::Instruction(Instruction::Addr(MmioAddress(first))),
-        10 => Named::Instruction(Instruction::Data(first)),
-        _ => Named::Unknown,
+        5 => Ok(Instruction::Exit),
+        6 => Ok(Instruction::Unset(capped_byte(first))),
+        7 => Ok(Instruction::Set1(capped_byte(first))),
+        8 => Ok(Instruction::Set0(capped_byte(first))),
+        9 => Ok(Instruction::Addr(MmioAddress(first))),
+        10 => Ok(Instruction::Data(first)),
+        _ => Err(Unnamed::Unknown),
     }
 }

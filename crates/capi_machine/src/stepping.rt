@@ -4,7 +4,7 @@ ghost use Rattle.capi_machine.specs.Stepping.{slot_numbered, effect_numbers, ste
 ghost use Rattle.event_log.specs.Log.{log_of};
 
 use capi_state::{StateImage, state_image, state_of_image};
-use event_log::Place;
+use event_log::{Log, Place};
 use isa::MmioAddress;
 use machine_slot::Effect;
 use machine_state::SlotName;
@@ -57,9 +57,11 @@ pub extern "C" fn hwsq_step<'a>(
     step_reply(machine_step::step(
         state_of_image(state),
         slot_named(slot),
-        clocks,
-        known,
-        values,
+        Log {
+            clocks,
+            known,
+            values,
+        },
         Place { row, used },
     ))
 }

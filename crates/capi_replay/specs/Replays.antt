@@ -1,5 +1,5 @@
 -- Replay's answer as numbers.
-use Rattle.std.specs.Prelude.{ℕ, ◌≡◌, List, length}
+use Rattle.std.specs.Prelude.{ℕ, ◌≡◌, List, length, Ok, Err}
 use Rattle.refusals.specs.Number.{unreplayable_number}
 use Rattle.event_log.specs.Log.{Log}
 use Rattle.script.specs.Script.{Script}
@@ -55,8 +55,8 @@ ended_reply told = record {
 }
 
 abbrev pub replay_reply : ReplayAnswer → ReplayReply
-replay_reply (ReplayAnswer.Ended told) = ended_reply told
-replay_reply (ReplayAnswer.Refused why) = unreplayed_reply (unreplayable_number why)
+replay_reply (Ok told) = ended_reply told
+replay_reply (Err why) = unreplayed_reply (unreplayable_number why)
 
 -- the reply tells replay's answer, of which and of the lent entries all holds that replay promises
 pub record HwsqReplay (script : Script) (registers : Registers) (log : Log) (old new : List ℕ) (reply : ReplayReply) : Type 0 where

@@ -5,8 +5,12 @@ ghost use Rattle.event_log.specs.Log.{log_of};
 ghost use Rattle.run.specs.Registers.{registers_of};
 ghost use Rattle.script.specs.Script.{script_of};
 
+use event_log::Log;
 use isa::{CodeAddress, MmioAddress};
-use run::{Ending, ReplayAnswer, Replayed};
+use isa_fetch::CodeRam;
+use refusals::Unreplayable;
+use run::{Ending, Registers, Replayed};
+use script::Script;
 
 #[repr(C)]
 #[derive(Clone, Copy)]
@@ -53,29 +57,35 @@ pub extern "C" fn hwsq_replay<'a>(
     ensures { HwsqReplay (script_of family code.now marks.now entry) (registers_of addr «data» flags_0 flags_1 enable)
         (log_of clocks.now known.now values.now) writes.old writes.new result }
 {
-    replay_reply(run_replay::replay(
-        family,
-        code,
-        marks,
-        CodeAddress(entry),
-        MmioAddress(addr),
+    let script = Script {
+        ram: CodeRam {
+            family,
+            code,
+            marks,
+        },
+        entry: CodeAddress(entry),
+    };
+    let registers = Registers {
+        addr: MmioAddress(addr),
         data,
         flags_0,
         flags_1,
         enable,
+    };
+    let log = Log {
         clocks,
         known,
         values,
-        writes,
-    ))
+    };
+    replay_reply(run_replay::replay(script, registers, log, writes))
 }
 
-fn replay_reply(answer: ReplayAnswer) -> ReplayReply
+fn replay_reply(answer: Result<Replayed, Unreplayable>) -> ReplayReply
     ensures { result ≡ replay_reply answer }
 {
     match answer {
-        ReplayAnswer::Ended(told) => ended_reply(told),
-        ReplayAnswer::Refused(why) => unreplayed(u8::from(why)),
+        Ok(told) => ended_reply(told),
+        Err(why) => unreplayed(u8::from(why)),
     }
 }
 

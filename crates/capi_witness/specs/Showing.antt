@@ -1,5 +1,5 @@
 -- The verdict and the log that shows it, told as numbers.
-use Rattle.std.specs.Prelude.{ℕ, ◌≡◌, List}
+use Rattle.std.specs.Prelude.{ℕ, ◌≡◌, List, Ok, Err}
 use Rattle.refusals.specs.Number.{fault_number, unshowable_number}
 use Rattle.isa.specs.declared.addresses.CodeAddress.{CodeAddress}
 use Rattle.event_log.specs.Log.{Log}
@@ -38,8 +38,8 @@ abbrev pub unshown_reply : ℕ → WitnessReply
 unshown_reply refusal = record { refusal = refusal; verdict = refusal; addr = 0; «data» = 0; place = 0; count = 0; clocks = 0; rows = 0; steps = 0; writes = 0 }
 
 abbrev pub witness_reply : WitnessAnswer → WitnessReply
-witness_reply (WitnessAnswer.Shown shown) = shown_reply shown
-witness_reply (WitnessAnswer.Refused why) = unshown_reply (unshowable_number why)
+witness_reply (Ok shown) = shown_reply shown
+witness_reply (Err why) = unshown_reply (unshowable_number why)
 
 -- the reply tells the answer, of which all holds that `witness` promises, of the columns too
 pub record HwsqWitness (script : Script) (ranges : List ℕ) (lent new : Log) (reply : WitnessReply) : Type 0 where

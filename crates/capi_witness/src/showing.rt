@@ -5,8 +5,11 @@ ghost use Rattle.script.specs.Script.{script_of};
 ghost use Rattle.capi_witness.specs.Showing.{told_reply, shown_reply, unshown_reply, witness_reply, HwsqWitness};
 
 use audit_verdict::Verdict;
-use audit_witness::{Shown, WitnessAnswer};
+use audit_witness::Shown;
 use isa::CodeAddress;
+use isa_fetch::CodeRam;
+use refusals::Unshowable;
+use script::Script;
 
 #[repr(C)]
 #[derive(Clone, Copy)]
@@ -42,24 +45,23 @@ pub extern "C" fn hwsq_witness<'a>(
     ensures { HwsqWitness (script_of family code.now marks.now entry) ranges.now
         (log_of clocks.old known.old values.old) (log_of clocks.new known.new values.new) result }
 {
-    witness_reply(audit_witness::witness(
-        family,
-        code,
-        marks,
-        CodeAddress(entry),
-        ranges,
-        clocks,
-        known,
-        values,
-    ))
+    let script = Script {
+        ram: CodeRam {
+            family,
+            code,
+            marks,
+        },
+        entry: CodeAddress(entry),
+    };
+    witness_reply(audit_witness::witness(script, ranges, clocks, known, values))
 }
 
-fn witness_reply(answer: WitnessAnswer) -> WitnessReply
+fn witness_reply(answer: Result<Shown, Unshowable>) -> WitnessReply
     ensures { result ≡ witness_reply answer }
 {
     match answer {
-        WitnessAnswer::Shown(shown) => shown_reply(shown),
-        WitnessAnswer::Refused(why) => unshown_reply(u8::from(why)),
+        Ok(shown) => shown_reply(shown),
+        Err(why) => unshown_reply(u8::from(why)),
     }
 }
 
@@ -73,8 +75,7 @@ fn second_word(matters: bool) -> u32
 fn shown_reply(shown: Shown) -> WitnessReply
     ensures { result ≡ shown_reply shown }
 {
-    let verdict = shown.verdict;
-    match verdict {
+    match shown.verdict {
         Verdict::Pass {
             place,
             count,

@@ -1,8 +1,9 @@
 // Which columns are a log, and which places lie in it.
 ghost use Rattle.std.specs.Prelude.{◌≡◌};
-ghost use Rattle.event_log.specs.Log.{log_of};
+ghost use Rattle.event_log.specs.Log.{lent_log};
 ghost use Rattle.event_log.specs.Validity.{clocks_in_range, rows_in_range, valid_log, valid_place};
 
+use crate::lent::Log;
 use crate::place::Place;
 
 // The most rows of a log.
@@ -31,20 +32,27 @@ fn rows_in_range(clocks: &[u64]) -> bool
     true
 }
 
-// Whether the columns are a log: at most 1,024 rows, columns of equal length, clocks in range.
-pub fn valid_log<'a>(clocks: &'a [u64], known: &'a [u32], values: &'a [u32]) -> bool
-    ensures { result ≡ valid_log (log_of clocks.now known.now values.now) }
-{
-    if MAX_ROWS < clocks.len() {
-        return false;
+impl Log<'_> {
+    // Whether the columns are a log: at most 1,024 rows, columns of equal length, clocks in range.
+    pub fn is_valid(self) -> bool
+        ensures { result ≡ valid_log (lent_log self.entry) }
+    {
+        let Log {
+            clocks,
+            known,
+            values,
+        } = self;
+        if MAX_ROWS < clocks.len() {
+            return false;
+        }
+        if known.len() != clocks.len() {
+            return false;
+        }
+        if values.len() != clocks.len() {
+            return false;
+        }
+        rows_in_range(clocks)
     }
-    if known.len() != clocks.len() {
-        return false;
-    }
-    if values.len() != clocks.len() {
-        return false;
-    }
-    rows_in_range(clocks)
 }
 
 // Whether the place lies in the log: in a row with clocks left, or at the log's end.

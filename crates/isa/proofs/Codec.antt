@@ -1,4 +1,5 @@
 -- Reader and writer are inverse to each other, on every family. Assumes nothing.
+use Rattle.std.specs.Prelude.{Ok, Err}
 use Prim.Native.Nat.{ℕ, suc, ◌+◌, ◌*◌, ◌/◌, ◌%◌, ◌<◌, ◌≤◌}
 use mathlib.Core.Path.{◌≡◌, refl, ap, ap₂, sym, ◌∙◌}
 use mathlib.Core.Bool.{true}
@@ -14,8 +15,8 @@ use Rattle.isa.specs.Writer.{opcode_of, on_family, operands_fit, le_bytes, spell
 use Rattle.isa.specs.Codec.{InType, OneSpelling}
 use Rattle.isa.specs.declared.instructions.Instruction.{Instruction}
 use Rattle.isa.specs.declared.opcodes.Opcode.{Opcode}
-use Rattle.isa.specs.declared.reader.Decoded.{Decoded}
-use Rattle.isa.specs.declared.encoding.Encoded.{Encoded}
+use Rattle.isa.specs.Answers.{Decoded}
+use Rattle.isa.specs.Answers.{Encoded}
 use Rattle.families.proofs.Tests.{cond_elim, bounds}
 use Rattle.isa.proofs.Bytes.{respell, reread}
 use Rattle.isa.proofs.OpcodeLaws as op
@@ -66,8 +67,8 @@ record Spelled (f : ℕ) (bs : List ℕ) (i : Instruction) (n : ℕ) : Type 0 wh
   room : n ≤ length bs
 
 abbrev SpelledAs : ℕ → List ℕ → Decoded → Type 0
-SpelledAs f bs (Decoded.Instruction i n) = Spelled f bs i n
-SpelledAs f bs (Decoded.Refused why) = Unit {0}
+SpelledAs f bs (Ok (i, n)) = Spelled f bs i n
+SpelledAs f bs (Err why) = Unit {0}
 
 abbrev AreBytes : List ℕ → Type 0
 AreBytes bs = (j : ℕ) → get_or bs j 0 < 256
@@ -119,9 +120,9 @@ read_spelled f Opcode.Data (x ∷ xs) r a h =
 read_spelled f Opcode.Unknown bs r a h = tt
 
 rewritten : (f : ℕ) (bs : List ℕ) (d : Decoded) → known_family f ≡ true → SpelledAs f bs d → OneSpelling f bs d
-rewritten f bs (Decoded.Instruction i n) u s =
-    (s.bytes, sym (written f i n u s.on s.fit (omega (arith, s.width))) ∙ ap Encoded.Length s.width, s.some, s.room)
-rewritten f bs (Decoded.Refused why) u s = tt
+rewritten f bs (Ok (i, n)) u s =
+    (s.bytes, sym (written f i n u s.on s.fit (omega (arith, s.width))) ∙ ap Ok s.width, s.some, s.room)
+rewritten f bs (Err why) u s = tt
 
 -- bytes that read as an instruction are the spelling that the writer gives it
 pub one_spelling : (f : ℕ) (bs : List ℕ) → AreBytes bs → OneSpelling f bs (decode_of f bs)
@@ -167,22 +168,22 @@ opcode_back f (Instruction.Addr a) o w = known_later f Opcode.Addr o ∙ op.addr
 opcode_back f (Instruction.Data d) o w = known_later f Opcode.Data o ∙ op.data32 f 0xe2 refl
 
 operands_back : (i : Instruction) (after : List ℕ) → operands_fit i ≡ true → InType i
-    → read_as (opcode_of i) (spell i ++ after) ≡ Decoded.Instruction i (length (spell i))
+    → read_as (opcode_of i) (spell i ++ after) ≡ Ok (i, (length (spell i)))
 operands_back (Instruction.Wait l s) after w t =
     let h = wait_fits_lem l s w in
     let p : (l + 4 * s) % 4 ≡ l = omega arith in
     let q : (l + 4 * s) / 4 ≡ s = omega arith in
     cc
-operands_back (Instruction.AddrLo a) after w t = ap (λ (x : ℕ). Decoded.Instruction (Instruction.AddrLo x) 3) (reread 2 a after t)
-operands_back (Instruction.DataLo d) after w t = ap (λ (x : ℕ). Decoded.Instruction (Instruction.DataLo x) 3) (reread 2 d after t)
+operands_back (Instruction.AddrLo a) after w t = ap (λ (x : ℕ). Ok (Instruction.AddrLo x, 3)) (reread 2 a after t)
+operands_back (Instruction.DataLo d) after w t = ap (λ (x : ℕ). Ok (Instruction.DataLo x, 3)) (reread 2 d after t)
 operands_back (Instruction.Ewait e v) after w t = refl
 operands_back Instruction.Exit after w t = refl
-operands_back (Instruction.Unset n) after w t = ap (λ (x : ℕ). Decoded.Instruction (Instruction.Unset x) 1) (omega (arith, leb-true n 31 w))
-operands_back (Instruction.Set1 n) after w t = ap (λ (x : ℕ). Decoded.Instruction (Instruction.Set1 x) 1) (omega (arith, leb-true n 31 w))
-operands_back (Instruction.Set0 n) after w t = ap (λ (x : ℕ). Decoded.Instruction (Instruction.Set0 x) 1) (omega (arith, leb-true n 31 w))
+operands_back (Instruction.Unset n) after w t = ap (λ (x : ℕ). Ok (Instruction.Unset x, 1)) (omega (arith, leb-true n 31 w))
+operands_back (Instruction.Set1 n) after w t = ap (λ (x : ℕ). Ok (Instruction.Set1 x, 1)) (omega (arith, leb-true n 31 w))
+operands_back (Instruction.Set0 n) after w t = ap (λ (x : ℕ). Ok (Instruction.Set0 x, 1)) (omega (arith, leb-true n 31 w))
 operands_back (Instruction.Addr a) after w t =
-    ap (λ (x : ℕ). Decoded.Instruction (Instruction.Addr (record { 0 = x })) 5) (reread 4 a.0 after t)
-operands_back (Instruction.Data d) after w t = ap (λ (x : ℕ). Decoded.Instruction (Instruction.Data x) 5) (reread 4 d after t)
+    ap (λ (x : ℕ). Ok (Instruction.Addr (record { 0 = x }), 5)) (reread 4 a.0 after t)
+operands_back (Instruction.Data d) after w t = ap (λ (x : ℕ). Ok (Instruction.Data x, 5)) (reread 4 d after t)
 
 -- a spelling is as long as its opcode says, and its first byte stands first
 front : (i : Instruction) (after : List ℕ)
@@ -199,7 +200,7 @@ front (Instruction.Addr a) after = (omega arith, omega arith, refl)
 front (Instruction.Data d) after = (omega arith, omega arith, refl)
 
 -- a spelling, with any bytes after it, reads as its instruction
-pub reads_back : (f : ℕ) (i : Instruction) (after : List ℕ) → Writable f i → decode_of f (spell i ++ after) ≡ Decoded.Instruction i (length (spell i))
+pub reads_back : (f : ℕ) (i : Instruction) (after : List ℕ) → Writable f i → decode_of f (spell i ++ after) ≡ Ok (i, (length (spell i)))
 reads_back f i after w =
     let s = front i after in
     sym (all_there f (spell i ++ after) (opcode_of i) w.family s.1 (opcode_back f i w.on w.fit ∙ ap (opcode_at f) s.2) s.0)

@@ -1,4 +1,5 @@
 -- Which case of `decode_of` holds, and which bytes a reading depends on. Assumes nothing.
+use Rattle.std.specs.Prelude.{Err}
 use Prim.Native.Nat.{ℕ, ◌<◌, ◌≤◌}
 use mathlib.Core.Path.{◌≡◌, refl}
 use mathlib.Core.Bool.{true, false, cond}
@@ -11,22 +12,22 @@ use Rattle.families.specs.Family.{known_family}
 use Rattle.isa.specs.Opcode.{opcode_at, size_of, is_unknown_opcode}
 use Rattle.isa.specs.Reader.{read_as, decode_of, decoded_number, decode_refusal}
 use Rattle.isa.specs.declared.opcodes.Opcode.{Opcode}
-use Rattle.isa.specs.declared.reader.Decoded.{Decoded}
+use Rattle.isa.specs.Answers.{Decoded}
 use Rattle.refusals.specs.declared.refusals.Unreadable.{Unreadable}
 use Rattle.isa.proofs.Bytes.{two_bytes, four}
 use Rattle.families.proofs.Tests.{cond_elim}
 
 module _ (f : ℕ) (bs : List ℕ) where
-  pub no_family : known_family f ≡ false → Decoded.Refused Unreadable.Family ≡ decode_of f bs
+  pub no_family : known_family f ≡ false → Err Unreadable.Family ≡ decode_of f bs
   unfolding decode_of
   no_family u = simp u
 
-  pub no_byte : known_family f ≡ true → length bs ≡ 0 → Decoded.Refused Unreadable.Empty ≡ decode_of f bs
+  pub no_byte : known_family f ≡ true → length bs ≡ 0 → Err Unreadable.Empty ≡ decode_of f bs
   unfolding decode_of
   no_byte u e = simp (u, lt-leb 1 (length bs) (omega arith))
 
   module _ (k : Opcode) (u : known_family f ≡ true) (h : 0 < length bs) (e : k ≡ opcode_at f (get_or bs 0 0)) where
-    pub short : length bs < size_of k → Decoded.Refused Unreadable.Short ≡ decode_of f bs
+    pub short : length bs < size_of k → Err Unreadable.Short ≡ decode_of f bs
     unfolding decode_of
     short l = simp (u, le-leb 1 (length bs) h, ← e, lt-leb (size_of k) (length bs) l)
 

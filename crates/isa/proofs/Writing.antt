@@ -1,4 +1,5 @@
 -- Which case of `encode_of` holds, and what operands that fit are. Assumes nothing.
+use Rattle.std.specs.Prelude.{Ok, Err}
 use Prim.Native.Nat.{ℕ, ◌<◌, ◌≤◌}
 use mathlib.Core.Path.{◌≡◌, sym, ap, ◌∙◌}
 use mathlib.Core.Bool.{true, false}
@@ -9,7 +10,7 @@ use Rattle.families.specs.Family.{known_family}
 use Rattle.isa.specs.Wait.{wait_fits}
 use Rattle.isa.specs.Writer.{opcode_of, on_family, operands_fit, spell, encode_of, encoded_number, encode_refusal}
 use Rattle.isa.specs.declared.instructions.Instruction.{Instruction}
-use Rattle.isa.specs.declared.encoding.Encoded.{Encoded}
+use Rattle.isa.specs.Answers.{Encoded}
 use Rattle.refusals.specs.declared.refusals.Unwritable.{Unwritable}
 use Rattle.families.proofs.Tests.{both_left, both_right, cond_elim}
 
@@ -24,25 +25,25 @@ pub flag : (i j : Instruction) (n : ℕ) → operands_fit i ≡ true → i ≡ j
 flag i j n p e q = leb-true n 31 (sym q ∙ ap operands_fit (sym e) ∙ p)
 
 module _ (f : ℕ) (i : Instruction) (n : ℕ) where
-  pub no_family : known_family f ≡ false → Encoded.Refused Unwritable.Family ≡ encode_of f i n
+  pub no_family : known_family f ≡ false → Err Unwritable.Family ≡ encode_of f i n
   unfolding encode_of
   no_family u = simp u
 
   module _ (u : known_family f ≡ true) where
-    pub not_on : on_family f (opcode_of i) ≡ false → Encoded.Refused Unwritable.NotOnFamily ≡ encode_of f i n
+    pub not_on : on_family f (opcode_of i) ≡ false → Err Unwritable.NotOnFamily ≡ encode_of f i n
     unfolding encode_of
     not_on v = simp (u, v)
 
     module _ (v : on_family f (opcode_of i) ≡ true) where
-      pub bad_operand : operands_fit i ≡ false → Encoded.Refused Unwritable.Operand ≡ encode_of f i n
+      pub bad_operand : operands_fit i ≡ false → Err Unwritable.Operand ≡ encode_of f i n
       unfolding encode_of
       bad_operand w = simp (u, v, w)
 
-      pub no_room : operands_fit i ≡ true → n < length (spell i) → Encoded.Refused Unwritable.Room ≡ encode_of f i n
+      pub no_room : operands_fit i ≡ true → n < length (spell i) → Err Unwritable.Room ≡ encode_of f i n
       unfolding encode_of
       no_room w h = simp (u, v, w, lt-leb (length (spell i)) n h)
 
-      pub written : operands_fit i ≡ true → length (spell i) ≤ n → Encoded.Length (length (spell i)) ≡ encode_of f i n
+      pub written : operands_fit i ≡ true → length (spell i) ≤ n → Ok (length (spell i)) ≡ encode_of f i n
       unfolding encode_of
       written w h = simp (u, v, w, le-leb (length (spell i)) n h)
 

@@ -1,10 +1,10 @@
 -- What reader and writer promise, and how they fit together (demand 2: one spelling, which reads back as itself).
-use Rattle.std.specs.Prelude.{ℕ, ◌^◌, ◌<◌, ◌≤◌, ◌≡◌, List, ◌++◌, length, take}
+use Rattle.std.specs.Prelude.{ℕ, ◌^◌, ◌<◌, ◌≤◌, ◌≡◌, List, ◌++◌, length, take, Ok, Err}
 use Rattle.isa.specs.Reader.{decode_of, decoded_number, decode_refusal}
 use Rattle.isa.specs.Writer.{encode_of, encoded_number, encode_refusal, written_over, spell}
 use Rattle.isa.specs.declared.instructions.Instruction.{Instruction}
-use Rattle.isa.specs.declared.reader.Decoded.{Decoded}
-use Rattle.isa.specs.declared.encoding.Encoded.{Encoded}
+use Rattle.isa.specs.Answers.{Decoded}
+use Rattle.isa.specs.Answers.{Encoded}
 
 -- the words of an instruction fit their types
 abbrev pub InType : Instruction → Type 0
@@ -21,15 +21,15 @@ InType (Instruction.Data word) = word < 2 ^ 32
 
 -- bytes that were read are the one spelling of what they read as: the writer takes that instruction on this family and writes just these bytes
 abbrev pub OneSpelling : ℕ → List ℕ → Decoded → Type 0
-OneSpelling family bytes (Decoded.Instruction instruction n) =
-    (spell instruction ≡ take n bytes) × (encode_of family instruction n ≡ Encoded.Length n) × (0 < n) × (n ≤ length bytes)
-OneSpelling family bytes (Decoded.Refused why) = Unit {0}
+OneSpelling family bytes (Ok (instruction, n)) =
+    (spell instruction ≡ take n bytes) × (encode_of family instruction n ≡ Ok n) × (0 < n) × (n ≤ length bytes)
+OneSpelling family bytes (Err why) = Unit {0}
 
 -- bytes that were written read back as the instruction, whatever bytes stand after them
 abbrev pub ReadsBack : ℕ → Instruction → List ℕ → Encoded → Type 0
-ReadsBack family instruction new (Encoded.Length n) =
-    (after : List ℕ) → decode_of family (take n new ++ after) ≡ Decoded.Instruction instruction n
-ReadsBack family instruction new (Encoded.Refused why) = Unit {0}
+ReadsBack family instruction new (Ok n) =
+    (after : List ℕ) → decode_of family (take n new ++ after) ≡ Ok (instruction, n)
+ReadsBack family instruction new (Err why) = Unit {0}
 
 -- what the reader promises of its answer to a family and bytes
 pub record Reads (family : ℕ) (bytes : List ℕ) (answer : Decoded) : Type 0 where

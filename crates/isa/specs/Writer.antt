@@ -1,9 +1,9 @@
 -- The instruction writer (01, "Instructions" and "Other refusals").
-use Rattle.std.specs.Prelude.{ℕ, zero, suc, ◌+◌, ◌*◌, ◌/◌, ◌%◌, Bool, true, false, cond, not, List, [], ◌∷◌, ◌++◌, length, drop, leb, ltb}
+use Rattle.std.specs.Prelude.{ℕ, zero, suc, ◌+◌, ◌*◌, ◌/◌, ◌%◌, Bool, true, false, cond, not, List, [], ◌∷◌, ◌++◌, length, drop, leb, ltb, Ok, Err}
 use Rattle.refusals.specs.Number.{unwritable_number}
 use Rattle.families.specs.Family.{known_family}
 use Rattle.isa.specs.Wait.{wait_fits}
-use Rattle.isa.specs.declared.encoding.Encoded.{Encoded}
+use Rattle.isa.specs.Answers.{Encoded}
 use Rattle.isa.specs.declared.instructions.Instruction.{Instruction}
 use Rattle.isa.specs.declared.opcodes.Opcode.{Opcode}
 use Rattle.refusals.specs.declared.refusals.Unwritable.{Unwritable}
@@ -71,20 +71,20 @@ encode_of family instruction lent =
     cond (known_family family)
     (cond (on_family family (opcode_of instruction))
     (cond (operands_fit instruction)
-    (cond (leb (length (spell instruction)) lent) (Encoded.Length (length (spell instruction))) (Encoded.Refused Unwritable.Room))
-    (Encoded.Refused Unwritable.Operand))
-    (Encoded.Refused Unwritable.NotOnFamily))
-    (Encoded.Refused Unwritable.Family)
+    (cond (leb (length (spell instruction)) lent) (Ok (length (spell instruction))) (Err Unwritable.Room))
+    (Err Unwritable.Operand))
+    (Err Unwritable.NotOnFamily))
+    (Err Unwritable.Family)
 
 -- what the lent bytes hold after the answer: the spelling and then the old bytes, or after a refusal the old bytes alone
 abbrev pub written_over : List ℕ → Instruction → Encoded → List ℕ
-written_over old instruction (Encoded.Length n) = spell instruction ++ drop n old
-written_over old instruction (Encoded.Refused why) = old
+written_over old instruction (Ok n) = spell instruction ++ drop n old
+written_over old instruction (Err why) = old
 
 -- the number that the writer's answer stands for, 0 where it wrote
 abbrev pub encoded_number : Encoded → ℕ
-encoded_number (Encoded.Length n) = 0
-encoded_number (Encoded.Refused why) = unwritable_number why
+encoded_number (Ok n) = 0
+encoded_number (Err why) = unwritable_number why
 
 -- which number it must be: 9 family, 11 not on it, 12 an operand too large, 13 too few bytes lent, tested in this order
 unfoldable pub encode_refusal : ℕ → Instruction → ℕ → ℕ

@@ -3,13 +3,9 @@
 #![tactic(auto)]
 
 mod addresses;
-mod encoding;
 mod instructions;
 mod opcodes;
-mod reader;
 
 pub use addresses::{CodeAddress, MmioAddress};
-pub use encoding::Encoded;
 pub use instructions::Instruction;
 pub use opcodes::Opcode;
-pub use reader::Decoded;

@@ -1,4 +1,5 @@
 -- A fetch reads marks and marked bytes alone: bytes that were never uploaded do not matter. Assumes nothing.
+use Rattle.std.specs.Prelude.{Err}
 use Prim.Native.Nat.{ℕ, zero, suc, ◌+◌, ◌<◌, ◌≤◌}
 use mathlib.Core.Path.{◌≡◌, refl, ap, ap₂, sym, ◌∙◌}
 use mathlib.Core.Bool.{Bool, true, false, cond, ◌&&◌}
@@ -13,23 +14,23 @@ use Rattle.families.specs.Family.{known_family, code_size}
 use Rattle.isa.specs.Opcode.{opcode_at, size_of, is_unknown_opcode}
 use Rattle.isa.specs.Reader.{read_as, decode_of}
 use Rattle.isa.specs.declared.opcodes.Opcode.{Opcode}
-use Rattle.isa.specs.declared.reader.Decoded.{Decoded}
+use Rattle.isa.specs.Answers.{Decoded}
 use Rattle.refusals.specs.declared.refusals.Unreadable.{Unreadable}
 use Rattle.isa.proofs.Reading.{same_read}
 use Rattle.isa_fetch.specs.Fetch.{code_ram_of, all_marked, check_marks, fetch_of}
 use Rattle.isa_fetch.proofs.Marks.{marked_at, read_checked}
 
 -- equal tests, and equal answers where they hold
-same_test : {b b' : Bool} {d d' : Decoded} (why : Unreadable) → b ≡ b' → (b ≡ true → d ≡ d') → cond b d (Decoded.Refused why) ≡ cond b' d' (Decoded.Refused why)
+same_test : {b b' : Bool} {d d' : Decoded} (why : Unreadable) → b ≡ b' → (b ≡ true → d ≡ d') → cond b d (Err why) ≡ cond b' d' (Err why)
 same_test {b = true} why e h = rw (← e) (h refl)
 same_test {b = false} why e h = rw (← e)
 
 -- the reader's tests before it reads
 same_tests : (marks marks' : List ℕ) (at : ℕ) (family first whole : Bool) (d d' : Decoded) → (whole ≡ true → check_marks marks at d ≡ check_marks marks' at d')
-    → check_marks marks at (cond family (cond first (cond whole d (Decoded.Refused Unreadable.Short)) (Decoded.Refused Unreadable.Empty))
-    (Decoded.Refused Unreadable.Family))
-    ≡ check_marks marks' at (cond family (cond first (cond whole d' (Decoded.Refused Unreadable.Short)) (Decoded.Refused Unreadable.Empty))
-    (Decoded.Refused Unreadable.Family))
+    → check_marks marks at (cond family (cond first (cond whole d (Err Unreadable.Short)) (Err Unreadable.Empty))
+    (Err Unreadable.Family))
+    ≡ check_marks marks' at (cond family (cond first (cond whole d' (Err Unreadable.Short)) (Err Unreadable.Empty))
+    (Err Unreadable.Family))
 same_tests marks marks' at true true true d d' h = h refl
 same_tests marks marks' at true true false d d' h = refl
 same_tests marks marks' at true false whole d d' h = refl
@@ -41,9 +42,9 @@ decoded_by : (family : ℕ) (bytes bytes' : List ℕ) → length bytes ≡ lengt
     ≡ cond (known_family family)
     (cond (leb 1 (length bytes))
     (cond (leb (size_of (opcode_at family (get_or bytes 0 0))) (length bytes)) (read_as (opcode_at family (get_or bytes 0 0)) bytes')
-    (Decoded.Refused Unreadable.Short))
-    (Decoded.Refused Unreadable.Empty))
-    (Decoded.Refused Unreadable.Family)
+    (Err Unreadable.Short))
+    (Err Unreadable.Empty))
+    (Err Unreadable.Family)
 unfolding decode_of
 decoded_by family bytes bytes' l e = simp (l, e)
 
@@ -87,7 +88,7 @@ module _ (family : ℕ) (code marks code' marks' : List ℕ) (room : code_size f
         let l : at + size_of k ≤ code_size family = omega (arith, ram_size, length-drop at ram) in
         let same = same_marked (size_of k) at l in
         rw (read_checked k (drop at ram') marks' at, read_checked k (drop at ram) marks at)
-        (ap (cond (is_unknown_opcode k) (Decoded.Refused Unreadable.Unknown))
+        (ap (cond (is_unknown_opcode k) (Err Unreadable.Unknown))
         (same_test Unreadable.NotUploaded same
         (λ m. same_read k (drop at ram) (drop at ram') (λ j i. same_byte j (omega arith) (marked_at (size_of k) marks at (sym same ∙ m) j i)))))
 

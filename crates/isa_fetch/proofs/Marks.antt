@@ -1,4 +1,5 @@
 -- Upload marks, one byte at a time. Assumes nothing.
+use Rattle.std.specs.Prelude.{Err}
 use Prim.Native.Nat.{ℕ, zero, suc, ◌+◌, ◌-◌, ◌≤◌, ◌<◌}
 use mathlib.Core.Path.{◌≡◌, refl, sym, ◌∙◌}
 use mathlib.Core.Bool.{true, false, cond, ◌&&◌}
@@ -11,7 +12,7 @@ use borrow.Author.Tests.{eq-eqb, ne_eqb, eqb-true}
 use Rattle.isa.specs.Opcode.{size_of, is_unknown_opcode}
 use Rattle.isa.specs.Reader.{read_as}
 use Rattle.isa.specs.declared.opcodes.Opcode.{Opcode}
-use Rattle.isa.specs.declared.reader.Decoded.{Decoded}
+use Rattle.isa.specs.Answers.{Decoded}
 use Rattle.refusals.specs.declared.refusals.Unreadable.{Unreadable}
 use Rattle.families.proofs.Tests.{both_left, both_right}
 use Rattle.isa_fetch.specs.Fetch.{all_marked, check_marks}
@@ -63,8 +64,8 @@ marked_at (suc n) marks i e (suc j) h =
 -- what the check of the marks leaves of what was read
 pub read_checked : (k : Opcode) (bytes marks : List ℕ) (at : ℕ)
     → check_marks marks at (read_as k bytes)
-    ≡ cond (is_unknown_opcode k) (Decoded.Refused Unreadable.Unknown) (cond (all_marked (size_of k) marks at) (read_as k bytes)
-    (Decoded.Refused Unreadable.NotUploaded))
+    ≡ cond (is_unknown_opcode k) (Err Unreadable.Unknown) (cond (all_marked (size_of k) marks at) (read_as k bytes)
+    (Err Unreadable.NotUploaded))
 read_checked Opcode.Wait bytes marks at = refl
 read_checked Opcode.AddrLo bytes marks at = refl
 read_checked Opcode.DataLo bytes marks at = refl

@@ -13,7 +13,7 @@ use Rattle.families.specs.Family.{known_family, code_size}
 use Rattle.isa.specs.Opcode.{opcode_at, size_of, is_unknown_opcode}
 use Rattle.isa.specs.Reader.{read_as, decode_of, decoded_number}
 use Rattle.isa.specs.declared.opcodes.Opcode.{Opcode}
-use Rattle.isa.specs.declared.reader.Decoded.{Decoded}
+use Rattle.isa.specs.Answers.{Decoded}
 use Rattle.isa.proofs.Reading.{read_number, long_known, short, all_there}
 use Rattle.families.proofs.Tests.{cond_elim, by_no_family}
 use Rattle.isa_fetch.specs.Fetch.{code_ram_of, all_marked, check_marks, fetch_of, fetch_refusal}

@@ -1,4 +1,5 @@
 -- Places in code RAM, and what is fetched there. Assumes nothing.
+use Rattle.std.specs.Prelude.{Ok, Err}
 use Prim.Native.Nat.{ℕ, zero, suc, ◌+◌, ◌-◌, ◌≤◌, ◌<◌}
 use mathlib.Core.Path.{◌≡◌, refl, ap, ◌∙◌}
 use mathlib.Core.Bool.{true, false}
@@ -15,9 +16,9 @@ use Rattle.isa.specs.Codec.{OneSpelling}
 use Rattle.isa.specs.Writer.{opcode_of, on_family, operands_fit, spell, encode_of}
 use Rattle.isa.specs.declared.instructions.Instruction.{Instruction}
 use Rattle.isa.specs.declared.opcodes.Opcode.{Opcode}
-use Rattle.isa.specs.declared.reader.Decoded.{Decoded}
+use Rattle.isa.specs.Answers.{Decoded}
 use Rattle.refusals.specs.declared.refusals.Unreadable.{Unreadable}
-use Rattle.isa.specs.declared.encoding.Encoded.{Encoded}
+use Rattle.isa.specs.Answers.{Encoded}
 use Rattle.isa.proofs.Codec.{one_spelling}
 use Rattle.families.proofs.Tests.{cond_elim, by_family_elim}
 use Rattle.isa_fetch.specs.Fetch.{all_marked, check_marks, code_ram_of, fetch_of, Inside}
@@ -49,8 +50,8 @@ spelled_short (Instruction.Addr a) = omega arith
 spelled_short (Instruction.Data d) = omega arith
 
 abbrev Fits : Instruction → Encoded → Type 0
-Fits i (Encoded.Length n) = operands_fit i ≡ true
-Fits i (Encoded.Refused why) = Unit {0}
+Fits i (Ok n) = operands_fit i ≡ true
+Fits i (Err why) = Unit {0}
 
 -- what the writer takes has operands that fit
 written_fits : (f : ℕ) (i : Instruction) (lent : ℕ) → Fits i (encode_of f i lent)
@@ -67,8 +68,8 @@ written_fits f i lent =
 -- what the reader finds in the RAM from a place on lies in the RAM
 pub inside_of : (family : ℕ) (code marks : List ℕ) (at : ℕ) (d : Decoded) → at ≤ length (code_ram_of family code)
     → OneSpelling family (drop at (code_ram_of family code)) d → Inside family code at (check_marks marks at d)
-inside_of family code marks at (Decoded.Refused why) h s = tt
-inside_of family code marks at (Decoded.Instruction i n) h s =
+inside_of family code marks at (Err why) h s = tt
+inside_of family code marks at (Ok (i, n)) h s =
     let ram = code_ram_of family code in
     let room : n ≤ length ram - at = omega (arith, length-drop at ram) in
     let long : length (spell i) ≡ n = ap length s.0 ∙ length-take n (drop at ram) ∙ omega (arith, length-drop at ram) in
@@ -107,12 +108,12 @@ ram_small family code = omega (arith, ram_most family code, size_small family)
 
 -- an instruction has its opcode's size and lies in the code RAM, and so does an unknown opcode; a known family is not refused
 abbrev pub Lies : ℕ → ℕ → Decoded → Type 0
-Lies family at (Decoded.Instruction i n) = (n ≡ size_of (opcode_of i)) × (0 < n) × (at + n ≤ code_size family)
-Lies family at (Decoded.Refused Unreadable.Family) = known_family family ≡ false
-Lies family at (Decoded.Refused Unreadable.Empty) = Unit {0}
-Lies family at (Decoded.Refused Unreadable.Unknown) = at < code_size family
-Lies family at (Decoded.Refused Unreadable.Short) = Unit {0}
-Lies family at (Decoded.Refused Unreadable.NotUploaded) = Unit {0}
+Lies family at (Ok (i, n)) = (n ≡ size_of (opcode_of i)) × (0 < n) × (at + n ≤ code_size family)
+Lies family at (Err Unreadable.Family) = known_family family ≡ false
+Lies family at (Err Unreadable.Empty) = Unit {0}
+Lies family at (Err Unreadable.Unknown) = at < code_size family
+Lies family at (Err Unreadable.Short) = Unit {0}
+Lies family at (Err Unreadable.NotUploaded) = Unit {0}
 
 read_lies : (family at : ℕ) (opcode : Opcode) (bytes : List ℕ) → at + size_of opcode ≤ code_size family → Lies family at (read_as opcode bytes)
 read_lies family at Opcode.Wait bytes h = (refl, omega arith, h)
@@ -128,8 +129,8 @@ read_lies family at Opcode.Data bytes h = (refl, omega arith, h)
 read_lies family at Opcode.Unknown bytes h = omega arith
 
 checked_lies : (family at : ℕ) (marks : List ℕ) (d : Decoded) → Lies family at d → Lies family at (check_marks marks at d)
-checked_lies family at marks (Decoded.Instruction i n) h = cond_elim (Lies family at) (all_marked n marks at) (λ _. h) (λ _. tt)
-checked_lies family at marks (Decoded.Refused why) h = h
+checked_lies family at marks (Ok (i, n)) h = cond_elim (Lies family at) (all_marked n marks at) (λ _. h) (λ _. tt)
+checked_lies family at marks (Err why) h = h
 
 decoded_lies : (family at : ℕ) (bytes : List ℕ) → at + length bytes ≤ code_size family → Lies family at (decode_of family bytes)
 unfolding decode_of
@@ -156,9 +157,9 @@ module _ (family : ℕ) (code marks : List ℕ) (at : ℕ) where
       (λ _. tt)
 
   -- past the code RAM there is nothing to fetch
-  pub fetch_past : code_size family ≤ at → fetch_of family code marks at ≡ Decoded.Refused Unreadable.Empty
+  pub fetch_past : code_size family ≤ at → fetch_of family code marks at ≡ Err Unreadable.Empty
   unfolding fetch_of
   fetch_past h = simp (le-ltb at (length (code_ram_of family code)) (omega (arith, ram_most family code)))
 
-pub unknown_within : (family : ℕ) (code marks : List ℕ) (at : ℕ) → fetch_of family code marks at ≡ Decoded.Refused Unreadable.Unknown → at < 512
+pub unknown_within : (family : ℕ) (code marks : List ℕ) (at : ℕ) → fetch_of family code marks at ≡ Err Unreadable.Unknown → at < 512
 unknown_within family code marks at e = let h : at < code_size family = rw e at (fetch_lies family code marks at) in omega (arith, size_small family)

@@ -1,11 +1,11 @@
 -- Fetching an instruction from code RAM (01, "Steps and time", and the auditor's order at one place: first byte 1, 2, 3, then
 -- operands 1, 2).
-use Rattle.std.specs.Prelude.{ℕ, zero, suc, ◌+◌, ◌<◌, ◌≤◌, ◌≡◌, Bool, true, cond, not, ◌&&◌, List, [], ◌∷◌, length, get_or, take, drop, leb, ltb, eqb}
+use Rattle.std.specs.Prelude.{ℕ, zero, suc, ◌+◌, ◌<◌, ◌≤◌, ◌≡◌, Bool, true, cond, not, ◌&&◌, List, [], ◌∷◌, length, get_or, take, drop, leb, ltb, eqb, Ok, Err}
 use Rattle.families.specs.Family.{code_size, max_code}
 use Rattle.isa.specs.Opcode.{opcode_at, size_of, is_unknown_opcode}
 use Rattle.isa.specs.Reader.{decode_of, decoded_number}
 use Rattle.isa.specs.Writer.{operands_fit}
-use Rattle.isa.specs.declared.reader.Decoded.{Decoded}
+use Rattle.isa.specs.Answers.{Decoded}
 use Rattle.refusals.specs.declared.refusals.Unreadable.{Unreadable}
 use Rattle.refusals.specs.Listing.{Test, test, first_of}
 
@@ -20,9 +20,9 @@ all_marked (suc n) marks at = let later = all_marked n marks (at + 1) in eqb (ge
 
 -- an instruction stands only if all its bytes were uploaded
 abbrev pub check_marks : List ℕ → ℕ → Decoded → Decoded
-check_marks marks at (Decoded.Instruction instruction n) =
-    cond (all_marked n marks at) (Decoded.Instruction instruction n) (Decoded.Refused Unreadable.NotUploaded)
-check_marks marks at (Decoded.Refused why) = Decoded.Refused why
+check_marks marks at (Ok (instruction, n)) =
+    cond (all_marked n marks at) (Ok (instruction, n)) (Err Unreadable.NotUploaded)
+check_marks marks at (Err why) = Err why
 
 -- the first byte lies in the RAM and was uploaded; then what the reader says of the code from there on, if all of it was uploaded
 unfoldable pub fetch_of : ℕ → List ℕ → List ℕ → ℕ → Decoded
@@ -30,8 +30,8 @@ fetch_of family code marks at =
     cond (ltb at (length (code_ram_of family code)))
     (cond (eqb (get_or marks at 0) 1)
     (check_marks marks at (decode_of family (drop at (code_ram_of family code))))
-    (Decoded.Refused Unreadable.NotUploaded))
-    (Decoded.Refused Unreadable.Empty)
+    (Err Unreadable.NotUploaded))
+    (Err Unreadable.Empty)
 
 -- its tests, in the order of 01: the opcode past the code RAM, never uploaded or unknown, then an operand past the code RAM or never uploaded; a family that
 -- there is not has no code RAM
@@ -52,8 +52,8 @@ fetch_refusal family code marks at = first_of (fetch_tests family code marks at)
 
 -- why nothing was fetched; an instruction has no reason, and stands for an empty place
 abbrev pub reason_of : Decoded → Unreadable
-reason_of (Decoded.Instruction instruction n) = Unreadable.Empty
-reason_of (Decoded.Refused why) = why
+reason_of (Ok (instruction, n)) = Unreadable.Empty
+reason_of (Err why) = why
 
 -- the place past an opcode of one byte, which lies in a code RAM of 512 bytes at most
 abbrev pub past_opcode : ℕ → ℕ
@@ -61,9 +61,9 @@ past_opcode at = cond (ltb at max_code) (at + 1) at
 
 -- a fetched instruction lies in the code RAM, takes 1 to 5 bytes, and has no length above 3, shift above 15 or flag above 31
 abbrev pub Inside : ℕ → List ℕ → ℕ → Decoded → Type 0
-Inside family code at (Decoded.Instruction instruction n) =
+Inside family code at (Ok (instruction, n)) =
     (0 < n) × (n ≤ 5) × (at + n ≤ length (code_ram_of family code)) × (operands_fit instruction ≡ true)
-Inside family code at (Decoded.Refused why) = Unit {0}
+Inside family code at (Err why) = Unit {0}
 
 pub record Fetches (family : ℕ) (code marks : List ℕ) (at : ℕ) (answer : Decoded) : Type 0 where
   pub answered : answer ≡ fetch_of family code marks at

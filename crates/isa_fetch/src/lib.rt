@@ -4,9 +4,43 @@
 ghost use Rattle.std.specs.Prelude.{◌≡◌, length, get_or};
 ghost use Rattle.isa_fetch.specs.Fetch.{all_marked, check_marks, code_ram_of, reason_of, past_opcode, Fetches};
 
-use isa::{CodeAddress, Decoded};
+use isa::{CodeAddress, Instruction};
 use refusals::Unreadable;
 use words::byte_at;
+
+// A family's code RAM as it is lent: its bytes, and 1 for each that was uploaded. Bytes past the family's size are no part of it.
+#[derive(Clone, Copy)]
+pub struct CodeRam<'a> {
+    pub family: u8,
+    pub code: &'a [u8],
+    pub marks: &'a [u8],
+}
+
+impl CodeRam<'_> {
+    // How many bytes of the family's code RAM are there.
+    fn length(self) -> usize
+        ensures { result ≡ length (code_ram_of self.entry.family self.entry.code.now) }
+    {
+        self.code.len().min(families::code_size(self.family))
+    }
+
+    // The instruction at a place, and how many bytes it takes. The first byte is tested before its operands, and whether a
+    // byte lies in the RAM before whether it was uploaded.
+    pub fn fetch(self, place: CodeAddress) -> Result<(Instruction, usize), Unreadable>
+        ensures { Fetches self.entry.family self.entry.code.now self.entry.marks.now place.0 result }
+    {
+        let at = place.0;
+        let end = self.length();
+        if end <= at {
+            return Err(Unreadable::Empty);
+        }
+        if byte_at(self.marks, at) != 1 {
+            return Err(Unreadable::NotUploaded);
+        }
+        let found = isa_reader::decode(self.family, &self.code[at..end]);
+        check_marks(found, self.marks, at)
+    }
+}
 
 // Whether each of the n bytes from a place on is marked as uploaded.
 fn all_marked(marks: &[u8], at: usize, n: usize) -> bool
@@ -25,55 +59,29 @@ fn all_marked(marks: &[u8], at: usize, n: usize) -> bool
 }
 
 // The answer, unless a byte of its instruction was never uploaded. The first byte was, so most instructions are done with.
-fn check_marks(found: Decoded, marks: &[u8], at: usize) -> Decoded
+fn check_marks(
+    found: Result<(Instruction, usize), Unreadable>,
+    marks: &[u8],
+    at: usize,
+) -> Result<(Instruction, usize), Unreadable>
     requires { get_or marks.now at 0 ≡ 1 }
     ensures { result ≡ check_marks marks.now at found }
 {
-    match found {
-        Decoded::Instruction(_, length) => {
-            if length < 2 {
-                found
-            } else if all_marked(marks, at, length) {
-                found
-            } else {
-                Decoded::Refused(Unreadable::NotUploaded)
-            }
-        }
-        Decoded::Refused(_) => found,
+    let (instruction, length) = found?;
+    if length < 2 || all_marked(marks, at, length) {
+        Ok((instruction, length))
+    } else {
+        Err(Unreadable::NotUploaded)
     }
-}
-
-// How many bytes of the family's code RAM are there.
-fn ram_length(family: u8, code: &[u8]) -> usize
-    ensures { result ≡ length (code_ram_of family code.now) }
-{
-    let size = families::code_size(family);
-    if code.len() < size { code.len() } else { size }
-}
-
-// The instruction at a place of the family's code RAM. The first byte is tested before its operands, and whether a
-// byte lies in the RAM before whether it was uploaded.
-pub fn fetch<'a>(family: u8, code: &'a [u8], marks: &'a [u8], place: CodeAddress) -> Decoded
-    ensures { Fetches family code.now marks.now place.0 result }
-{
-    let at = place.0;
-    let end = ram_length(family, code);
-    if end <= at {
-        return Decoded::Refused(Unreadable::Empty);
-    }
-    if byte_at(marks, at) != 1 {
-        return Decoded::Refused(Unreadable::NotUploaded);
-    }
-    check_marks(isa_reader::decode(family, &code[at..end]), marks, at)
 }
 
 // Why nothing was fetched. Of an instruction it says that there is no byte, which no caller asks.
-pub fn reason_of(found: Decoded) -> Unreadable
+pub fn reason_of(found: Result<(Instruction, usize), Unreadable>) -> Unreadable
     ensures { result ≡ reason_of found }
 {
     match found {
-        Decoded::Instruction(_, _) => Unreadable::Empty,
-        Decoded::Refused(why) => why,
+        Ok(_) => Unreadable::Empty,
+        Err(why) => why,
     }
 }
 

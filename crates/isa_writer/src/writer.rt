@@ -6,7 +6,7 @@ ghost use Rattle.isa.specs.Codec.{InType, Writes};
 ghost use Rattle.isa_writer.specs.Spelling.{spelling_bytes};
 
 use families::known_family;
-use isa::{Encoded, Instruction, Opcode};
+use isa::{Instruction, Opcode};
 use refusals::Unwritable;
 
 // The bytes of an instruction.
@@ -18,38 +18,35 @@ pub enum Spelling {
 }
 
 // Writes the instruction's bytes at the start of out, whose other bytes stay as they were.
-pub fn encode(family: u8, instruction: Instruction, out: &mut [u8]) -> Encoded
+pub fn encode(family: u8, instruction: Instruction, out: &mut [u8]) -> Result<usize, Unwritable>
     ensures { Writes family instruction out.old out.new result }
 {
     if !known_family(family) {
-        return Encoded::Refused(Unwritable::Family);
+        return Err(Unwritable::Family);
     }
     if !on_family(family, opcode_of(instruction)) {
-        return Encoded::Refused(Unwritable::NotOnFamily);
+        return Err(Unwritable::NotOnFamily);
     }
     if !operands_fit(instruction) {
-        return Encoded::Refused(Unwritable::Operand);
+        return Err(Unwritable::Operand);
     }
     let spelling = spelled(instruction);
     let n = width(spelling);
-    if n <= out.len() {
-        put(spelling, out);
-        return Encoded::Length(n);
+    if out.len() < n {
+        return Err(Unwritable::Room);
     }
-    Encoded::Refused(Unwritable::Room)
+    put(spelling, out);
+    Ok(n)
 }
 
 fn opcode_of(instruction: Instruction) -> Opcode
     ensures { result ≡ opcode_of instruction }
 {
     match instruction {
-        Instruction::Wait {
-            length: _,
-            shift: _,
-        } => Opcode::Wait,
+        Instruction::Wait { .. } => Opcode::Wait,
         Instruction::AddrLo(_) => Opcode::AddrLo,
         Instruction::DataLo(_) => Opcode::DataLo,
-        Instruction::Ewait { event: _, value: _ } => Opcode::Ewait,
+        Instruction::Ewait { .. } => Opcode::Ewait,
         Instruction::Exit => Opcode::Exit,
         Instruction::Unset(_) => Opcode::Unset,
         Instruction::Set1(_) => Opcode::Set1,
@@ -86,7 +83,7 @@ fn operands_fit(instruction: Instruction) -> bool
         Instruction::Wait { length, shift } => wait_fits(length, shift),
         Instruction::AddrLo(_) => true,
         Instruction::DataLo(_) => true,
-        Instruction::Ewait { event: _, value: _ } => true,
+        Instruction::Ewait { .. } => true,
         Instruction::Exit => true,
         Instruction::Unset(flag) => flag <= 31,
         Instruction::Set1(flag) => flag <= 31,

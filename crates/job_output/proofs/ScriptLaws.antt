@@ -1,4 +1,5 @@
 -- Parts of a job's arrays, and the run of its script. Assumes nothing.
+use Rattle.std.specs.Prelude.{Ok, Err}
 use Prim.Native.Nat.{ℕ, ◌*◌, ◌≤◌}
 use mathlib.Core.Path.{◌≡◌, ap, sym, subst, ◌∙◌}
 use mathlib.Core.Bool.{true, false, not, ◌&&◌}
@@ -72,16 +73,16 @@ module _ (j : Job) {q : Sequencer} (e : q ≡ sequencer_of j.state) where
 
 -- ---- the run of a job that was read without fault
 
-ended_same : {a b : Progress} → RunAnswer.Ended a ≡ RunAnswer.Ended b → a ≡ b
+ended_same : {a b : Progress} → Ok a ≡ Ok b → a ≡ b
 ended_same h = cc
 
-pub never_refused : {A : Type 0} {why : Unreplayable} {last : Progress} → RunAnswer.Refused why ≡ RunAnswer.Ended last → A
+pub never_refused : {A : Type 0} {why : Unreplayable} {last : Progress} → Err why ≡ Ok last → A
 never_refused h = absurd (let z : ◌≡◌ {A = ℕ} 0 1 = cc in let w : ⊥ = omega arith in w)
 
 module _ (j : Job) (ready : ReadyToRun j) where
   module _ (old new : List ℕ) (answer : RunAnswer) (runs : RunsScript j.state (log_in j) old new answer) (lent : length old ≡ 340) where
     -- its run is not refused
-    pub run_ends : answer ≡ RunAnswer.Ended (progress_of (job_run j))
+    pub run_ends : answer ≡ Ok (progress_of (job_run j))
     unfolding run_answer_of job_run
     run_ends = runs.answered ∙ simp (script_fits_lem j ready.started, le-leb 340 (length old) (omega arith), ready.sound.valid)
 
@@ -92,7 +93,7 @@ module _ (j : Job) (ready : ReadyToRun j) where
     entries_are : take (2 * length (job_run j).writes) new ≡ entries_of (job_run j).writes
     entries_are = ap (take (2 * length (job_run j).writes)) written ∙ written_entries old (job_run j).writes
 
-    module _ (last : Progress) (e : answer ≡ RunAnswer.Ended last) where
+    module _ (last : Progress) (e : answer ≡ Ok last) where
       last_is : last ≡ progress_of (job_run j)
       last_is = ended_same (sym e ∙ run_ends)
 

@@ -14,7 +14,7 @@ use crate::runs::{audit_code, run_code, status_of};
 use audit_verdict::Verdict;
 use machine_execution::executing_slot;
 use machine_state::State;
-use run::{Progress, RunAnswer};
+use run::Progress;
 
 // The most bytes that a report may have: so many are lent.
 pub const MAX_REPORT: usize = 65536;
@@ -55,7 +55,7 @@ pub fn report(job: &[u8], out: &mut [u8; MAX_REPORT]) -> usize
         read.job.counts.rows,
         &mut entries,
     );
-    let RunAnswer::Ended(last) = answer else {
+    let Ok(last) = answer else {
         // never: the rows are a log, and the script fits its family
         return 0;
     };

@@ -11,10 +11,14 @@ ghost use Rattle.job_report.specs.JobScript.{word_of, status_of};
 ghost use Rattle.job_output.specs.Inside.{RunsScript};
 
 use audit_verdict::Verdict;
+use event_log::Log;
 use host_registers::ReadAnswer;
 use isa::MmioAddress;
+use isa_fetch::CodeRam;
 use machine_state::{Sequencer, Slot, SlotName, State};
-use run::RunAnswer;
+use refusals::Unreplayable;
+use run::{Progress, Scene};
+use script::Script;
 
 // The address of STATUS.
 const STATUS: u32 = 0x001308;
@@ -33,6 +37,19 @@ fn executing(sequencer: Sequencer) -> Slot
     }
 }
 
+// The family's part of a code RAM.
+fn code_ram<'a>(family: u8, code: &'a [u8], marks: &'a [u8]) -> CodeRam<'a>
+    requires { (code_size family ≤ length code.now) × (code_size family ≤ length marks.now) }
+    ensures { (result.family ≡ family) × (result.code.now ≡ take (code_size family) code.now) × (result.marks.now ≡ take (code_size family) marks.now) }
+{
+    let size = families::code_size(family);
+    CodeRam {
+        family,
+        code: &code[..size],
+        marks: &marks[..size],
+    }
+}
+
 // The verdict on the script of a sequencer with this code RAM, over the first ranges. A job's arrays are lent to its audit and
 // to its run, since a copy of them is 17 kB.
 pub(crate) fn audit_code<'a>(
@@ -46,16 +63,11 @@ pub(crate) fn audit_code<'a>(
     requires ranges_in_bounds { (2 * ranges ≤ length bounds.now) × (ranges ≤ max_ranges) }
     ensures { result ≡ audit_of (script_in (state_from sequencer code.now marks.now)) (take (2 * ranges) bounds.now) }
 {
-    let size = families::code_size(sequencer.family);
-    let slot = executing(sequencer);
-    let count = 2 * ranges;
-    audit_script::audit(
-        sequencer.family,
-        &code[..size],
-        &marks[..size],
-        slot.ip,
-        &bounds[..count],
-    )
+    let script = Script {
+        ram: code_ram(sequencer.family, code, marks),
+        entry: executing(sequencer).ip,
+    };
+    audit_script::audit(script, &bounds[..2 * ranges])
 }
 
 // The run of that script over the first rows of these columns; its writes go into the lent entries.
@@ -68,7 +80,7 @@ pub(crate) fn run_code<'a>(
     values: &'a [u32],
     rows: usize,
     writes: &mut [u32],
-) -> RunAnswer
+) -> Result<Progress, Unreplayable>
     requires family_in_bounds { (code_size sequencer.family ≤ length code.now) × (code_size sequencer.family ≤ length marks.now) }
     requires rows_in_bounds { (rows ≤ length clocks.now) × (rows ≤ length known.now) × (rows ≤ length values.now) }
     ensures { RunsScript
@@ -76,21 +88,16 @@ pub(crate) fn run_code<'a>(
         (log_of (take rows clocks.now) (take rows known.now) (take rows values.now))
         writes.old writes.new result }
 {
-    let size = families::code_size(sequencer.family);
-    let slot = executing(sequencer);
-    let flags = sequencer.flags;
-    run_replay::run(
-        sequencer.family,
-        &code[..size],
-        &marks[..size],
-        slot,
-        flags,
-        sequencer.enable,
-        &clocks[..rows],
-        &known[..rows],
-        &values[..rows],
-        writes,
-    )
+    let scene = Scene {
+        ram: code_ram(sequencer.family, code, marks),
+        enable: sequencer.enable,
+        log: Log {
+            clocks: &clocks[..rows],
+            known: &known[..rows],
+            values: &values[..rows],
+        },
+    };
+    run_replay::run(scene, executing(sequencer), sequencer.flags, writes)
 }
 
 fn word_of(reading: ReadAnswer) -> u32

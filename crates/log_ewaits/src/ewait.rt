@@ -1,10 +1,10 @@
 // A wait for an event: a search over the rows.
 ghost use Rattle.std.specs.Prelude.{◌≡◌};
 ghost use Rattle.log_ewaits.specs.Ewait.{has_reading, Ewaits};
-ghost use Rattle.event_log.specs.Log.{log_of};
+ghost use Rattle.event_log.specs.Log.{lent_log};
 
 use crate::row::mask_at;
-use event_log::Place;
+use event_log::{Log, Place};
 use log_waits::unused;
 
 // Where the search ended, and the clocks that it passed by.
@@ -31,29 +31,19 @@ pub fn has_reading(known: u32, values: u32, event: u8, value: u8) -> bool
 
 // Waits for the event from a place on: the first row that has the reading releases it. The clocks passed by
 // are kept in 64 bits; on a valid log they do not wrap.
-pub fn event_wait<'a>(
-    clocks: &'a [u64],
-    known: &'a [u32],
-    values: &'a [u32],
-    at: Place,
-    event: u8,
-    value: u8,
-) -> Released
-    ensures { Ewaits (log_of clocks.now known.now values.now) at event value result }
+pub fn event_wait(log: Log<'_>, at: Place, event: u8, value: u8) -> Released
+    ensures { Ewaits (lent_log log.entry) at event value result }
 {
     let mut row = at.row;
     let mut used = at.used;
     let mut passed: u64 = 0;
-    let released = loop {
-        if clocks.len() <= row {
-            break Released::End(passed);
+    while row < log.clocks.len() {
+        if has_reading(mask_at(log.known, row), mask_at(log.values, row), event, value) {
+            return Released::At(Place { row, used }, passed);
         }
-        if has_reading(mask_at(known, row), mask_at(values, row), event, value) {
-            break Released::At(Place { row, used }, passed);
-        }
-        passed = std::num::wrapping_add_u64(passed, unused(clocks[row], used));
+        passed = std::num::wrapping_add_u64(passed, unused(log.clocks[row], used));
         row += 1;
         used = 0;
-    };
-    released
+    }
+    Released::End(passed)
 }

@@ -1,10 +1,11 @@
 -- What a step does to the place and the clocks. Assumes nothing.
+use Rattle.std.specs.Prelude.{Ok, Err}
 use Prim.Native.Nat.{ℕ}
 use mathlib.Core.Path.{◌≡◌, refl}
 use mathlib.Core.Bool.{Bool, true}
 use mathlib.Core.List.{List}
 use native.Mathlib.Omega.{arith}
-use Rattle.isa.specs.declared.reader.Decoded.{Decoded}
+use Rattle.isa.specs.Answers.{Decoded}
 use Rattle.refusals.specs.declared.refusals.Unreadable.{Unreadable}
 use Rattle.event_log.specs.Log.{Log}
 use Rattle.event_log.specs.Validity.{valid_log, valid_place}
@@ -34,11 +35,11 @@ module _ (log : Log) (valid : valid_log log ≡ true) where
   pub slot_step_clocks : (family : ℕ) (enable : Bool) (slot : Slot) (flags : Flags) (p : Place) (fetched : Decoded)
       → (let t = slot_step_of family enable slot flags log p fetched in Spends log.clocks p t.waited t.searched t.place)
   unfolding perform_of
-  slot_step_clocks family enable slot flags p (Decoded.Instruction instruction n) = elapsed_clocks log valid (action_of instruction) p
-  slot_step_clocks family enable slot flags p (Decoded.Refused why) = unfetched_clocks log.clocks family slot flags p why
+  slot_step_clocks family enable slot flags p (Ok (instruction, n)) = elapsed_clocks log valid (action_of instruction) p
+  slot_step_clocks family enable slot flags p (Err why) = unfetched_clocks log.clocks family slot flags p why
 
   pub slot_step_place : (family : ℕ) (enable : Bool) (slot : Slot) (flags : Flags) (p : Place) (fetched : Decoded) → valid_place log.clocks p ≡ true
       → valid_place log.clocks (slot_step_of family enable slot flags log p fetched).place ≡ true
   unfolding perform_of
-  slot_step_place family enable slot flags p (Decoded.Instruction instruction n) v = elapsed_place log valid (action_of instruction) p v
-  slot_step_place family enable slot flags p (Decoded.Refused why) v = rw (unfetched_place family slot flags p why) v
+  slot_step_place family enable slot flags p (Ok (instruction, n)) v = elapsed_place log valid (action_of instruction) p v
+  slot_step_place family enable slot flags p (Err why) v = rw (unfetched_place family slot flags p why) v

@@ -1,7 +1,7 @@
 -- What a fetched instruction does, a function for each part of the state (01, "Instructions" and "Steps and time").
-use Rattle.std.specs.Prelude.{ℕ, ◌+◌, Bool, cond}
+use Rattle.std.specs.Prelude.{ℕ, ◌+◌, Bool, cond, Ok, Err}
 use Rattle.families.specs.Family.{unknown_hangs}
-use Rattle.isa.specs.declared.reader.Decoded.{Decoded}
+use Rattle.isa.specs.Answers.{Decoded}
 use Rattle.refusals.specs.declared.refusals.Unreadable.{Unreadable}
 use Rattle.event_log.specs.Log.{Log}
 use Rattle.event_log.specs.declared.place.Place.{Place}
@@ -107,6 +107,6 @@ unfetched family slot flags p why = unfetched_at family slot flags p (slot.ip.0 
 
 -- the step of a slot whose fetch answered so
 abbrev pub slot_step_of : ℕ → Bool → Slot → Flags → Log → Place → Decoded → SlotStep
-slot_step_of family enable slot flags log p (Decoded.Instruction instruction n) =
+slot_step_of family enable slot flags log p (Ok (instruction, n)) =
     perform_of enable slot flags (action_of instruction) n (elapsed_of (action_of instruction) log p)
-slot_step_of family enable slot flags log p (Decoded.Refused why) = unfetched family slot flags p why
+slot_step_of family enable slot flags log p (Err why) = unfetched family slot flags p why

@@ -1,4 +1,5 @@
 -- What a step is, what it shows of its slot, what it keeps, and what it passes. Assumes nothing.
+use Rattle.std.specs.Prelude.{Err}
 use Prim.Native.Nat.{ℕ}
 use mathlib.Core.Path.{◌≡◌, refl, sym, subst}
 use mathlib.Core.Bool.{true, false, ◌&&◌}
@@ -6,7 +7,7 @@ use mathlib.Core.List.{List}
 use native.Mathlib.Omega.{arith}
 use borrow.Author.Tests.{lt-ltb}
 use Rattle.families.specs.Family.{known_family}
-use Rattle.isa.specs.declared.reader.Decoded.{Decoded}
+use Rattle.isa.specs.Answers.{Decoded}
 use Rattle.families.proofs.Tests.{both_right, cond_elim}
 use Rattle.refusals.specs.declared.refusals.Unreadable.{Unreadable}
 use Rattle.isa_fetch.specs.Fetch.{fetch_of, past_opcode}
@@ -148,7 +149,7 @@ module _ (s : State) (name : SlotName) (log : Log) (p : Place) where
 
 -- past an unknown opcode is the next place, since an opcode lies in the code RAM
 pub unfetched_past : (family : ℕ) (code marks : List ℕ) (slot : Slot) (flags : Flags) (p : Place) (why : Unreadable)
-    → fetch_of family code marks slot.ip.0 ≡ Decoded.Refused why
+    → fetch_of family code marks slot.ip.0 ≡ Err why
     → unfetched_at family slot flags p (past_opcode slot.ip.0) why ≡ unfetched family slot flags p why
 unfetched_past family code marks slot flags p Unreadable.Family e = refl
 unfetched_past family code marks slot flags p Unreadable.Empty e = refl

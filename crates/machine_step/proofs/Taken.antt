@@ -1,8 +1,9 @@
 -- No step is a refusal. Assumes nothing.
+use Rattle.std.specs.Prelude.{Ok, Err}
 use Prim.Native.Nat.{ℕ}
 use mathlib.Core.Path.{◌≡◌, refl}
 use mathlib.Core.Bool.{Bool, true, false}
-use Rattle.isa.specs.declared.reader.Decoded.{Decoded}
+use Rattle.isa.specs.Answers.{Decoded}
 use Rattle.refusals.specs.declared.refusals.Unreadable.{Unreadable}
 use Rattle.event_log.specs.Log.{Log}
 use Rattle.event_log.specs.declared.place.Place.{Place}
@@ -32,6 +33,6 @@ unfetched_taken family slot flags p Unreadable.NotUploaded = refl
 pub slot_step_taken : (family : ℕ) (enable : Bool) (slot : Slot) (flags : Flags) (log : Log) (p : Place) (fetched : Decoded)
     → effect_number (slot_step_of family enable slot flags log p fetched).effect ≡ 0
 unfolding perform_of
-slot_step_taken family enable slot flags log p (Decoded.Instruction instruction n) =
+slot_step_taken family enable slot flags log p (Ok (instruction, n)) =
     action_taken (action_of instruction) enable slot.addr.0 slot.«data»
-slot_step_taken family enable slot flags log p (Decoded.Refused why) = unfetched_taken family slot flags p why
+slot_step_taken family enable slot flags log p (Err why) = unfetched_taken family slot flags p why

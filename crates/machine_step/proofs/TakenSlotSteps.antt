@@ -1,10 +1,11 @@
 -- The two ways in which code takes a step after a fetch. Assumes nothing.
+use Rattle.std.specs.Prelude.{Ok, Err}
 use Prim.Native.Nat.{ℕ, ◌+◌}
 use mathlib.Core.Path.{◌≡◌, sym, ap, ap₂, ◌∙◌}
 use mathlib.Core.Bool.{Bool}
 use mathlib.Core.List.{List}
 use Rattle.isa.specs.declared.instructions.Instruction.{Instruction}
-use Rattle.isa.specs.declared.reader.Decoded.{Decoded}
+use Rattle.isa.specs.Answers.{Decoded}
 use Rattle.refusals.specs.declared.refusals.Unreadable.{Unreadable}
 use Rattle.isa_fetch.specs.Fetch.{fetch_of, past_opcode}
 use Rattle.event_log.specs.Log.{Log}
@@ -20,7 +21,7 @@ use Rattle.machine_step.proofs.StepLaws.{unfetched_past}
 
 module _ (family : ℕ) (code marks : List ℕ) (enable : Bool) (slot : Slot) (flags : Flags) (log : Log) (p : Place) where
   -- nothing was fetched
-  pub slot_step_unfetched : (why : Unreadable) → fetch_of family code marks slot.ip.0 ≡ Decoded.Refused why → (next : ℕ) → next ≡ past_opcode slot.ip.0
+  pub slot_step_unfetched : (why : Unreadable) → fetch_of family code marks slot.ip.0 ≡ Err why → (next : ℕ) → next ≡ past_opcode slot.ip.0
       → (said : Unreadable) → said ≡ why
       → unfetched_at family slot flags p next said ≡ slot_step_of family enable slot flags log p (fetch_of family code marks slot.ip.0)
   slot_step_unfetched why f next n said s =
@@ -29,7 +30,7 @@ module _ (family : ℕ) (code marks : List ℕ) (enable : Bool) (slot : Slot) (f
       ∙ ap (slot_step_of family enable slot flags log p) (sym f)
 
   -- an instruction was fetched and is done
-  pub slot_step_performed : (i : Instruction) (n : ℕ) → fetch_of family code marks slot.ip.0 ≡ Decoded.Instruction i n → (action : Action)
+  pub slot_step_performed : (i : Instruction) (n : ℕ) → fetch_of family code marks slot.ip.0 ≡ Ok (i, n) → (action : Action)
       → action ≡ action_of i
       → (elapsed : Elapsed) → elapsed ≡ elapsed_of action log p
       → perform_at enable slot flags action (slot.ip.0 + n) elapsed ≡ slot_step_of family enable slot flags log p (fetch_of family code marks slot.ip.0)

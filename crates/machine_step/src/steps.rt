@@ -3,12 +3,13 @@ ghost use Rattle.std.specs.Prelude.{◌≡◌, ◌&&◌};
 ghost use Rattle.machine_state.specs.Slot.{has_slot, is_running};
 ghost use Rattle.machine_step.specs.Step.{after_slot_step, advance_of};
 ghost use Rattle.machine_step.specs.Step.{unmoved as Step·unmoved};
-ghost use Rattle.event_log.specs.Log.{log_of};
+ghost use Rattle.event_log.specs.Log.{lent_log};
 ghost use Rattle.event_log.specs.Validity.{valid_log, valid_place};
 ghost use Rattle.machine_step.specs.Promises.{StepsOnce};
 
-use event_log::Place;
-use isa::{CodeAddress, Decoded};
+use event_log::{Log, Place};
+use isa::CodeAddress;
+use isa_fetch::CodeRam;
 use machine_actions::action_of;
 use machine_slot::{Effect, SlotStep, perform, unfetched};
 use machine_state::{Mode, SlotName, State, has_slot, is_running, slot_of, with_slot};
@@ -26,63 +27,43 @@ pub struct Stepped {
 }
 
 // One step of the named slot, if the family is known and the place lies in a log.
-pub fn step<'a>(
-    state: State,
-    name: SlotName,
-    clocks: &'a [u64],
-    known: &'a [u32],
-    values: &'a [u32],
-    at: Place,
-) -> Stepped
-    ensures { StepsOnce state name (log_of clocks.now known.now values.now) at result }
+pub fn step(state: State, name: SlotName, log: Log<'_>, at: Place) -> Stepped
+    ensures { StepsOnce state name (lent_log log.entry) at result }
 {
     if !families::known_family(state.family) {
         return unmoved(state, at, Effect::Refused(Unsteppable::Family));
     }
-    if !in_log(clocks, known, values, at) {
+    if !in_log(log, at) {
         return unmoved(state, at, Effect::Refused(Unsteppable::Log));
     }
-    advance(state, name, clocks, known, values, at)
+    advance(state, name, log, at)
 }
 
 // One step of the named slot, whatever the log is. On an idle, waiting, blocked or hung slot, and on one that the family
 // lacks, it changes nothing.
-fn advance<'a>(
-    state: State,
-    name: SlotName,
-    clocks: &'a [u64],
-    known: &'a [u32],
-    values: &'a [u32],
-    at: Place,
-) -> Stepped
-    ensures { result ≡ advance_of state name (log_of clocks.now known.now values.now) at }
+fn advance(state: State, name: SlotName, log: Log<'_>, at: Place) -> Stepped
+    ensures { result ≡ advance_of state name (lent_log log.entry) at }
 {
     let slot = slot_of(state, name);
-    let mode = slot.mode;
-    if !can_run(state.family, name, mode) {
+    if !can_run(state.family, name, slot.mode) {
         return unmoved(state, at, Effect::Nothing);
     }
-    let ip = slot.ip;
-    let code = state.code;
-    let marks = state.marks;
-    let flags = state.flags;
-    let found = isa_fetch::fetch(state.family, &code, &marks, ip);
-    let Decoded::Instruction(instruction, length) = found else {
+    let ram = CodeRam {
+        family: state.family,
+        code: &state.code,
+        marks: &state.marks,
+    };
+    let found = ram.fetch(slot.ip);
+    let Ok((instruction, length)) = found else {
         let why = isa_fetch::reason_of(found);
-        let next = isa_fetch::past_opcode(ip);
-        let stray = unfetched(state.family, slot, flags, at, next, why);
+        let next = isa_fetch::past_opcode(slot.ip);
+        let stray = unfetched(state.family, slot, state.flags, at, next, why);
         return after_slot_step(state, name, stray);
     };
     let action = action_of(instruction);
-    let elapsed = elapse(action, clocks, known, values, at);
-    let step = perform(
-        state.enable,
-        slot,
-        flags,
-        action,
-        CodeAddress(ip.0 + length),
-        elapsed,
-    );
+    let elapsed = elapse(action, log, at);
+    let next = CodeAddress(slot.ip.0 + length);
+    let step = perform(state.enable, slot, state.flags, action, next, elapsed);
     after_slot_step(state, name, step)
 }
 
@@ -92,10 +73,10 @@ fn can_run(family: u8, name: SlotName, mode: Mode) -> bool
     has_slot(family, name) && is_running(mode)
 }
 
-fn in_log<'a>(clocks: &'a [u64], known: &'a [u32], values: &'a [u32], at: Place) -> bool
-    ensures { result ≡ (valid_log (log_of clocks.now known.now values.now) && valid_place clocks.now at) }
+fn in_log(log: Log<'_>, at: Place) -> bool
+    ensures { result ≡ (valid_log (lent_log log.entry) && valid_place log.entry.clocks.now at) }
 {
-    event_log::valid_log(clocks, known, values) && event_log::valid_place(clocks, at)
+    log.is_valid() && event_log::valid_place(log.clocks, at)
 }
 
 fn unmoved(state: State, place: Place, effect: Effect) -> Stepped
@@ -113,15 +94,11 @@ fn unmoved(state: State, place: Place, effect: Effect) -> Stepped
 fn after_slot_step(state: State, name: SlotName, step: SlotStep) -> Stepped
     ensures { result ≡ after_slot_step state name step }
 {
-    let slot = step.slot;
-    let flags = step.flags;
-    let place = step.place;
-    let effect = step.effect;
-    let next = with_slot(state, name, slot, flags);
+    let next = with_slot(state, name, step.slot, step.flags);
     Stepped {
         state: next,
-        place,
-        effect,
+        place: step.place,
+        effect: step.effect,
         waited: step.waited,
         searched: step.searched,
     }

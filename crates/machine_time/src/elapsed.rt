@@ -2,9 +2,9 @@
 ghost use Rattle.std.specs.Prelude.{◌≡◌};
 ghost use Rattle.machine_time.specs.Time.{at_once, after_wait, after_ewait, Elapses};
 ghost use Rattle.log_waits.specs.Wait.{wait_of};
-ghost use Rattle.event_log.specs.Log.{log_of};
+ghost use Rattle.event_log.specs.Log.{lent_log};
 
-use event_log::Place;
+use event_log::{Log, Place};
 use log_ewaits::Released;
 use machine_actions::Action;
 
@@ -33,10 +33,9 @@ fn after_wait(clocks: &[u64], at: Place, n: u64) -> Elapsed
     ensures { result ≡ after_wait n (wait_of clocks.now at n) }
 {
     let waited = log_waits::clock_wait(clocks, at, n);
-    let place = waited.place;
     let cut = waited.cut;
     Elapsed {
-        place,
+        place: waited.place,
         finished: cut == 0,
         waited: n - cut,
         searched: 0,
@@ -62,20 +61,14 @@ fn after_ewait(released: Released, rows: usize) -> Elapsed
     }
 }
 
-pub fn elapse<'a>(
-    action: Action,
-    clocks: &'a [u64],
-    known: &'a [u32],
-    values: &'a [u32],
-    at: Place,
-) -> Elapsed
-    ensures { Elapses action (log_of clocks.now known.now values.now) at result }
+pub fn elapse(action: Action, log: Log<'_>, at: Place) -> Elapsed
+    ensures { Elapses action (lent_log log.entry) at result }
 {
     match action {
-        Action::Wait(n) => after_wait(clocks, at, n),
+        Action::Wait(n) => after_wait(log.clocks, at, n),
         Action::Ewait(event, value) => after_ewait(
-            log_ewaits::event_wait(clocks, known, values, at, event, value),
-            clocks.len(),
+            log_ewaits::event_wait(log, at, event, value),
+            log.clocks.len(),
         ),
         _ => at_once(at),
     }

@@ -1,4 +1,5 @@
 -- What the run of a slot promises, from its answer and its lent entries: numbers, endings, sums, and that it is the machine's. Assumes nothing.
+use Rattle.std.specs.Prelude.{Ok, Err}
 use Prim.Native.Nat.{ℕ, ◌*◌}
 use mathlib.Core.Path.{◌≡◌, refl, sym, ap, subst, ◌∙◌}
 use mathlib.Core.Bool.{Bool, true, false, cond, not}
@@ -32,8 +33,8 @@ use Rattle.run.proofs.Settled.{stops}
 -- the tests in their order
 in_order : (script room log : Bool) (last : Progress)
     → run_number
-    (cond script (cond room (cond log (RunAnswer.Ended last) (RunAnswer.Refused Unreplayable.Log)) (RunAnswer.Refused Unreplayable.Room))
-    (RunAnswer.Refused Unreplayable.Input))
+    (cond script (cond room (cond log (Ok last) (Err Unreplayable.Log)) (Err Unreplayable.Room))
+    (Err Unreplayable.Input))
     ≡ cond (not script) 9 (cond (not room) 14 (cond (not log) 15 0))
 in_order false room log last = refl
 in_order true false log last = refl
@@ -42,8 +43,8 @@ in_order true true true last = refl
 
 -- what is told of an answer has its number
 pub told_number : (clocks : List ℕ) (answer : RunAnswer) → answer_number (told_answer clocks answer) ≡ run_number answer
-told_number clocks (RunAnswer.Ended last) = refl
-told_number clocks (RunAnswer.Refused why) = refl
+told_number clocks (Ok last) = refl
+told_number clocks (Err why) = refl
 
 module _ (x : Scene) (slot : Slot) (flags : Flags) where
   -- each refusal has its number
@@ -53,8 +54,8 @@ module _ (x : Scene) (slot : Slot) (flags : Flags) where
       in_order (script_fits (slot_script x slot)) (leb max_entries lent) (valid_log x.log) (progress_of (full_slot_run x slot flags))
 
   -- a run is refused, or ended under a log
-  answer_elim : (P : RunAnswer → Type 0) → ((why : Unreplayable) → P (RunAnswer.Refused why))
-      → (script_fits (slot_script x slot) ≡ true → valid_log x.log ≡ true → P (RunAnswer.Ended (progress_of (full_slot_run x slot flags))))
+  answer_elim : (P : RunAnswer → Type 0) → ((why : Unreplayable) → P (Err why))
+      → (script_fits (slot_script x slot) ≡ true → valid_log x.log ≡ true → P (Ok (progress_of (full_slot_run x slot flags))))
       → (lent : ℕ) → P (run_answer_of x slot flags lent)
   unfolding run_answer_of
   answer_elim P refused ended lent =
@@ -64,11 +65,11 @@ module _ (x : Scene) (slot : Slot) (flags : Flags) where
       (λ _. refused Unreplayable.Room))
       (λ _. refused Unreplayable.Input)
 
-  pub ended_valid : (lent : ℕ) (last : Progress) → run_answer_of x slot flags lent ≡ RunAnswer.Ended last → valid_log x.log ≡ true
+  pub ended_valid : (lent : ℕ) (last : Progress) → run_answer_of x slot flags lent ≡ Ok last → valid_log x.log ≡ true
   ended_valid lent last =
-      answer_elim (λ (answer : RunAnswer). answer ≡ RunAnswer.Ended last → valid_log x.log ≡ true) (λ why e. never e) (λ fits valid e. valid) lent
+      answer_elim (λ (answer : RunAnswer). answer ≡ Ok last → valid_log x.log ≡ true) (λ why e. never e) (λ fits valid e. valid) lent
     where
-      never : {why : Unreplayable} → RunAnswer.Refused why ≡ RunAnswer.Ended last → valid_log x.log ≡ true
+      never : {why : Unreplayable} → Err why ≡ Ok last → valid_log x.log ≡ true
       never e = absurd (let z : ◌≡◌ {A = ℕ} 0 1 = cc in let w : ⊥ = omega arith in w)
 
   few_writes : FewWrites x slot flags
@@ -113,5 +114,5 @@ runs_slot {x} {slot} {flags} {old} {new} e l = record {
 -- and so replay tells no more
 pub tells_few : (x : Scene) (slot : Slot) (flags : Flags) (old new clocks : List ℕ) (ran : RunAnswer) → EndsRight x slot flags old new ran
     → TellsFew (told_answer clocks ran)
-tells_few x slot flags old new clocks (RunAnswer.Ended last) ends = ends.few
-tells_few x slot flags old new clocks (RunAnswer.Refused why) ends = tt
+tells_few x slot flags old new clocks (Ok last) ends = ends.few
+tells_few x slot flags old new clocks (Err why) ends = tt

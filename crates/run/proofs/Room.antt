@@ -1,4 +1,5 @@
 -- A run writes at most 170 times: each write takes three bytes of a code RAM that has 512 at most. Assumes nothing.
+use Rattle.std.specs.Prelude.{Ok, Err}
 use Prim.Native.Nat.{ℕ, ◌+◌, ◌*◌, ◌≤◌}
 use mathlib.Core.Bool.{Bool, true, false, cond}
 use native.Mathlib.Omega.{arith}
@@ -6,7 +7,7 @@ use lib.ListN.{length, length-append}
 use Rattle.families.specs.Family.{code_size}
 use Rattle.isa.specs.declared.addresses.MmioAddress.{MmioAddress}
 use Rattle.isa.specs.declared.instructions.Instruction.{Instruction}
-use Rattle.isa.specs.declared.reader.Decoded.{Decoded}
+use Rattle.isa.specs.Answers.{Decoded}
 use Rattle.refusals.specs.declared.refusals.Unreadable.{Unreadable}
 use Rattle.isa_fetch.proofs.Places.{size_small, Lies, fetch_lies}
 use Rattle.event_log.specs.Log.{Log}
@@ -37,22 +38,22 @@ module _ (family : ℕ) (small : code_size family ≤ 512) (enable : Bool) (slot
   slot_step_room : (d : Decoded) → Lies family slot.ip.0 d
       → (let t = slot_step_of family enable slot flags log p d in Roomy slot.ip.0 t.slot.ip.0 t.effect)
   unfolding perform_of
-  slot_step_room (Decoded.Instruction (Instruction.Wait length shift) n) h = omega arith
-  slot_step_room (Decoded.Instruction (Instruction.AddrLo low) n) h =
+  slot_step_room (Ok (Instruction.Wait length shift, n)) h = omega arith
+  slot_step_room (Ok (Instruction.AddrLo low, n)) h =
       omega (arith, poke_once enable (record { 0 = merge_of Part.Low slot.addr.0 low }) slot.«data»)
-  slot_step_room (Decoded.Instruction (Instruction.DataLo low) n) h = omega arith
-  slot_step_room (Decoded.Instruction (Instruction.Ewait event value) n) h = omega arith
-  slot_step_room (Decoded.Instruction Instruction.Exit n) h = omega arith
-  slot_step_room (Decoded.Instruction (Instruction.Unset flag) n) h = omega arith
-  slot_step_room (Decoded.Instruction (Instruction.Set1 flag) n) h = omega arith
-  slot_step_room (Decoded.Instruction (Instruction.Set0 flag) n) h = omega arith
-  slot_step_room (Decoded.Instruction (Instruction.Addr address) n) h = omega (arith, poke_once enable address slot.«data»)
-  slot_step_room (Decoded.Instruction (Instruction.Data word) n) h = omega arith
-  slot_step_room (Decoded.Refused Unreadable.Family) h = omega arith
-  slot_step_room (Decoded.Refused Unreadable.Empty) h = omega arith
-  slot_step_room (Decoded.Refused Unreadable.Unknown) h = omega arith
-  slot_step_room (Decoded.Refused Unreadable.Short) h = omega arith
-  slot_step_room (Decoded.Refused Unreadable.NotUploaded) h = omega arith
+  slot_step_room (Ok (Instruction.DataLo low, n)) h = omega arith
+  slot_step_room (Ok (Instruction.Ewait event value, n)) h = omega arith
+  slot_step_room (Ok (Instruction.Exit, n)) h = omega arith
+  slot_step_room (Ok (Instruction.Unset flag, n)) h = omega arith
+  slot_step_room (Ok (Instruction.Set1 flag, n)) h = omega arith
+  slot_step_room (Ok (Instruction.Set0 flag, n)) h = omega arith
+  slot_step_room (Ok (Instruction.Addr address, n)) h = omega (arith, poke_once enable address slot.«data»)
+  slot_step_room (Ok (Instruction.Data word, n)) h = omega arith
+  slot_step_room (Err Unreadable.Family) h = omega arith
+  slot_step_room (Err Unreadable.Empty) h = omega arith
+  slot_step_room (Err Unreadable.Unknown) h = omega arith
+  slot_step_room (Err Unreadable.Short) h = omega arith
+  slot_step_room (Err Unreadable.NotUploaded) h = omega arith
 
 -- ---- runs
 

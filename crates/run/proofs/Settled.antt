@@ -1,4 +1,5 @@
 -- A run settles: after one step more than the code RAM has bytes no step fetches, and further steps change nothing. Assumes nothing.
+use Rattle.std.specs.Prelude.{Ok, Err}
 use Prim.Native.Nat.{ℕ, zero, suc, ◌+◌, ◌<◌, ◌≤◌}
 use mathlib.Core.Path.{◌≡◌, refl, ap, sym, subst, ◌∙◌}
 use mathlib.Core.Logic.{◌⊎◌, inl, inr}
@@ -7,7 +8,7 @@ use mathlib.Core.List.{append-nil}
 use native.Mathlib.Nat.{add-zero}
 use native.Mathlib.Omega.{arith}
 use Rattle.families.specs.Family.{code_size}
-use Rattle.isa.specs.declared.reader.Decoded.{Decoded}
+use Rattle.isa.specs.Answers.{Decoded}
 use Rattle.refusals.specs.declared.refusals.Unreadable.{Unreadable}
 use Rattle.isa_fetch.proofs.Places.{Lies, fetch_lies, fetch_past}
 use Rattle.event_log.specs.Log.{Log}
@@ -67,23 +68,23 @@ module _ (family : ℕ) (enable : Bool) (slot : Slot) (flags : Flags) (log : Log
       by (inr m) = exits counted m
 
   slot_step_moves : (d : Decoded) → Lies family slot.ip.0 d → Moves slot.ip.0 slot flags p (slot_step_of family enable slot flags log p d)
-  slot_step_moves (Decoded.Instruction instruction n) h = perform_moves (action_of instruction) n h.1
-  slot_step_moves (Decoded.Refused Unreadable.Family) h = rests (Effect.Stopped Unreadable.Family) refl refl
-  slot_step_moves (Decoded.Refused Unreadable.Empty) h = rests (Effect.Stopped Unreadable.Empty) refl refl
-  slot_step_moves (Decoded.Refused Unreadable.Unknown) h = goes_on refl (omega arith)
-  slot_step_moves (Decoded.Refused Unreadable.Short) h = rests (Effect.Stopped Unreadable.Short) refl refl
-  slot_step_moves (Decoded.Refused Unreadable.NotUploaded) h = rests (Effect.Stopped Unreadable.NotUploaded) refl refl
+  slot_step_moves (Ok (instruction, n)) h = perform_moves (action_of instruction) n h.1
+  slot_step_moves (Err Unreadable.Family) h = rests (Effect.Stopped Unreadable.Family) refl refl
+  slot_step_moves (Err Unreadable.Empty) h = rests (Effect.Stopped Unreadable.Empty) refl refl
+  slot_step_moves (Err Unreadable.Unknown) h = goes_on refl (omega arith)
+  slot_step_moves (Err Unreadable.Short) h = rests (Effect.Stopped Unreadable.Short) refl refl
+  slot_step_moves (Err Unreadable.NotUploaded) h = rests (Effect.Stopped Unreadable.NotUploaded) refl refl
 
   -- a step that fetched nothing stopped
   slot_step_stops : (d : Decoded) → fetched_by (slot_step_of family enable slot flags log p d).effect ≡ 0
       → (why : Unreadable) × ((slot_step_of family enable slot flags log p d).effect ≡ Effect.Stopped why)
   unfolding perform_of
-  slot_step_stops (Decoded.Instruction instruction n) h = absurd (omega (arith, action_fetched (action_of instruction) enable slot.addr.0 slot.«data»))
-  slot_step_stops (Decoded.Refused Unreadable.Family) h = (Unreadable.Family, refl)
-  slot_step_stops (Decoded.Refused Unreadable.Empty) h = (Unreadable.Empty, refl)
-  slot_step_stops (Decoded.Refused Unreadable.Unknown) h = absurd (omega arith)
-  slot_step_stops (Decoded.Refused Unreadable.Short) h = (Unreadable.Short, refl)
-  slot_step_stops (Decoded.Refused Unreadable.NotUploaded) h = (Unreadable.NotUploaded, refl)
+  slot_step_stops (Ok (instruction, n)) h = absurd (omega (arith, action_fetched (action_of instruction) enable slot.addr.0 slot.«data»))
+  slot_step_stops (Err Unreadable.Family) h = (Unreadable.Family, refl)
+  slot_step_stops (Err Unreadable.Empty) h = (Unreadable.Empty, refl)
+  slot_step_stops (Err Unreadable.Unknown) h = absurd (omega arith)
+  slot_step_stops (Err Unreadable.Short) h = (Unreadable.Short, refl)
+  slot_step_stops (Err Unreadable.NotUploaded) h = (Unreadable.NotUploaded, refl)
 
 -- ---- runs
 

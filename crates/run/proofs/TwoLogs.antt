@@ -1,4 +1,5 @@
 -- A slot's runs under two logs, step by step: alike but for their places until a wait of the first is unfinished. Assumes nothing.
+use Rattle.std.specs.Prelude.{Ok, Err}
 use Prim.Native.Nat.{ℕ, zero, suc, ◌+◌}
 use mathlib.Core.Path.{◌≡◌, refl, sym, ap₂, ◌∙◌}
 use mathlib.Core.Bool.{Bool, true, false, cond}
@@ -6,7 +7,7 @@ use mathlib.Core.List.{List, [], ◌++◌, append-nil, append_assoc}
 use native.Mathlib.Omega.{arith}
 use lib.ListN.{length}
 use borrow.Author.Tests.{eqb-true, eq-eqb}
-use Rattle.isa.specs.declared.reader.Decoded.{Decoded}
+use Rattle.isa.specs.Answers.{Decoded}
 use Rattle.refusals.specs.declared.refusals.Unreadable.{Unreadable}
 use Rattle.event_log.specs.Log.{Log}
 use Rattle.event_log.specs.Validity.{log_start}
@@ -96,13 +97,13 @@ module _ (x : Scene) (log' : Log) (PlacesBeside : Place → Place → Type 0) wh
 
       slot_steps_beside : (slot : Slot) (flags : Flags) (found : Decoded)
           → SlotStepsBeside (slot_step_of x.family x.enable slot flags x.log p found) (slot_step_of x.family x.enable slot flags log' p' found)
-      slot_steps_beside slot flags (Decoded.Instruction i n) =
+      slot_steps_beside slot flags (Ok (i, n)) =
           performs_beside x.enable slot flags (action_of i) n (elapsed_of (action_of i) x.log p) (elapsed_of (action_of i) log' p') (times_beside (action_of i))
-      slot_steps_beside slot flags (Decoded.Refused Unreadable.Family) = SlotStepsBeside.both refl refl refl refl near
-      slot_steps_beside slot flags (Decoded.Refused Unreadable.Empty) = SlotStepsBeside.both refl refl refl refl near
-      slot_steps_beside slot flags (Decoded.Refused Unreadable.Unknown) = SlotStepsBeside.both refl refl refl refl near
-      slot_steps_beside slot flags (Decoded.Refused Unreadable.Short) = SlotStepsBeside.both refl refl refl refl near
-      slot_steps_beside slot flags (Decoded.Refused Unreadable.NotUploaded) = SlotStepsBeside.both refl refl refl refl near
+      slot_steps_beside slot flags (Err Unreadable.Family) = SlotStepsBeside.both refl refl refl refl near
+      slot_steps_beside slot flags (Err Unreadable.Empty) = SlotStepsBeside.both refl refl refl refl near
+      slot_steps_beside slot flags (Err Unreadable.Unknown) = SlotStepsBeside.both refl refl refl refl near
+      slot_steps_beside slot flags (Err Unreadable.Short) = SlotStepsBeside.both refl refl refl refl near
+      slot_steps_beside slot flags (Err Unreadable.NotUploaded) = SlotStepsBeside.both refl refl refl refl near
 
       -- the next step of a slot that runs, and of one that is left alone
       next_beside : (slot : Slot) (flags : Flags) (runs : Bool)

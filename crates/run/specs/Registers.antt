@@ -8,6 +8,7 @@ use Rattle.machine_state.specs.declared.slots.SlotName.{SlotName}
 use Rattle.machine_state.specs.declared.state.State.{State}
 use Rattle.script.specs.Script.{Script}
 use Rattle.run.specs.SlotRun.{slot_at_entry}
+use Rattle.run.specs.declared.given.Registers.{Registers as Given}
 
 pub record Registers : Type 0 where
   pub addr : ℕ
@@ -19,6 +20,10 @@ pub record Registers : Type 0 where
 -- the registers of these five
 abbrev pub registers_of : ℕ → ℕ → ℕ → ℕ → Bool → Registers
 registers_of addr word flags0 flags1 enable = record { addr = addr; «data» = word; flags_0 = flags0; flags_1 = flags1; enable = enable }
+
+-- the registers that are given
+abbrev pub given_registers : Given → Registers
+given_registers r = registers_of r.addr.0 r.«data» r.flags_0 r.flags_1 r.enable
 
 -- as a slot of a state has them
 abbrev pub registers_in : SlotName → State → Registers

@@ -1,5 +1,5 @@
 -- The run of a slot to its end, and replay (01, "Other refusals" and "Demand 3's words"): one step more than the code RAM has bytes.
-use Rattle.std.specs.Prelude.{ℕ, suc, ◌+◌, ◌*◌, ◌≤◌, ◌≡◌, true, cond, not, length, take, drop, leb}
+use Rattle.std.specs.Prelude.{ℕ, suc, ◌+◌, ◌*◌, ◌≤◌, ◌≡◌, true, cond, not, length, take, drop, leb, Result, Ok, Err}
 use mathlib.Core.List.{List, [], ◌∷◌, ◌++◌, IsPrefix}
 use Rattle.families.specs.Family.{code_size, max_code}
 use Rattle.refusals.specs.Number.{unreplayable_number}
@@ -24,8 +24,6 @@ use Rattle.run.specs.MoreLog.{SaysMore}
 use Rattle.run.specs.Pairs.{Pairs}
 use Rattle.run.specs.declared.answers.Ending.{Ending}
 use Rattle.run.specs.declared.answers.Progress.{Progress}
-use Rattle.run.specs.declared.answers.RunAnswer.{RunAnswer}
-use Rattle.run.specs.declared.answers.ReplayAnswer.{ReplayAnswer}
 use Rattle.run.specs.declared.answers.Replayed.{Replayed}
 
 -- one step more than the family's code RAM has bytes
@@ -77,18 +75,26 @@ told_of clocks p = record {
   left = left_of clocks p.place;
 }
 
+-- how far a run came, or why there was none
+abbrev pub RunAnswer : Type 0
+RunAnswer = Result Progress Unreplayable
+
+-- what replay tells of a run, or why there was none
+abbrev pub ReplayAnswer : Type 0
+ReplayAnswer = Result Replayed Unreplayable
+
 abbrev pub told_answer : List ℕ → RunAnswer → ReplayAnswer
-told_answer clocks (RunAnswer.Ended last) = ReplayAnswer.Ended (told_of clocks last)
-told_answer clocks (RunAnswer.Refused why) = ReplayAnswer.Refused why
+told_answer clocks (Ok last) = Ok (told_of clocks last)
+told_answer clocks (Err why) = Err why
 
 -- the number that an answer stands for, 0 where it ran
 abbrev pub run_number : RunAnswer → ℕ
-run_number (RunAnswer.Ended last) = 0
-run_number (RunAnswer.Refused why) = unreplayable_number why
+run_number (Ok last) = 0
+run_number (Err why) = unreplayable_number why
 
 abbrev pub answer_number : ReplayAnswer → ℕ
-answer_number (ReplayAnswer.Ended told) = 0
-answer_number (ReplayAnswer.Refused why) = unreplayable_number why
+answer_number (Ok told) = 0
+answer_number (Err why) = unreplayable_number why
 
 -- the writes that a script can make at most: each takes three bytes of a code RAM of 512, and IP never goes back
 abbrev pub most_writes : ℕ
@@ -114,10 +120,10 @@ module _ (x : Scene) (slot : Slot) (flags : Flags) where
       cond (script_fits (slot_script x slot))
       (cond (leb max_entries lent)
       (cond (valid_log x.log)
-      (RunAnswer.Ended (progress_of (full_slot_run x slot flags)))
-      (RunAnswer.Refused Unreplayable.Log))
-      (RunAnswer.Refused Unreplayable.Room))
-      (RunAnswer.Refused Unreplayable.Input)
+      (Ok (progress_of (full_slot_run x slot flags)))
+      (Err Unreplayable.Log))
+      (Err Unreplayable.Room))
+      (Err Unreplayable.Input)
 
   -- which number an answer must have: 9 script, 14 fewer than 340 entries lent, 15 log, tested in this order
   unfoldable pub run_refusal : ℕ → ℕ
@@ -129,8 +135,8 @@ module _ (x : Scene) (slot : Slot) (flags : Flags) where
 
   -- the lent entries after the answer: the writes and then as lent, and after a refusal as lent
   abbrev pub lent_after : List ℕ → RunAnswer → List ℕ
-  lent_after lent (RunAnswer.Ended last) = written_into lent (full_slot_run x slot flags).writes
-  lent_after lent (RunAnswer.Refused why) = lent
+  lent_after lent (Ok last) = written_into lent (full_slot_run x slot flags).writes
+  lent_after lent (Err why) = lent
 
   -- ---- that it is the machine's own run
 
@@ -168,8 +174,8 @@ module _ (x : Scene) (slot : Slot) (flags : Flags) where
 
   -- a refusal ends no run
   abbrev pub EndsRight : List ℕ → List ℕ → RunAnswer → Type 0
-  EndsRight old new (RunAnswer.Ended last) = RunEnds old new last
-  EndsRight old new (RunAnswer.Refused why) = Unit {0}
+  EndsRight old new (Ok last) = RunEnds old new last
+  EndsRight old new (Err why) = Unit {0}
 
   -- what the run of a slot promises of its answer and of the lent entries, old and new
   pub record RunsSlot (old new : List ℕ) (answer : RunAnswer) : Type 0 where
@@ -185,8 +191,8 @@ module _ (x : Scene) (slot : Slot) (flags : Flags) where
 
 -- at most 170 writes are told
 abbrev pub TellsFew : ReplayAnswer → Type 0
-TellsFew (ReplayAnswer.Ended told) = told.writes ≤ most_writes
-TellsFew (ReplayAnswer.Refused why) = Unit {0}
+TellsFew (Ok told) = told.writes ≤ most_writes
+TellsFew (Err why) = Unit {0}
 
 -- ---- replay: what is told of the run of a script from its entry, with the registers that were given
 

@@ -1,8 +1,8 @@
 -- One slot's run: what its steps read, what they change, and what they did (01, "Demand 3's words").
 use Rattle.std.specs.Prelude.{ℕ, zero, suc, ◌+◌, ◌≡◌, Bool, true, false, cond, List, [], ◌++◌}
 use Rattle.families.specs.Family.{known_family}
-use Rattle.isa.specs.declared.reader.Decoded.{Decoded}
-use Rattle.event_log.specs.Log.{Log}
+use Rattle.isa.specs.Answers.{Decoded}
+use Rattle.event_log.specs.Log.{Log, lent_log}
 use Rattle.event_log.specs.Validity.{log_start}
 use Rattle.event_log.specs.declared.place.Place.{Place}
 use Rattle.isa_fetch.specs.Fetch.{fetch_of}
@@ -17,6 +17,7 @@ use Rattle.machine_slot.specs.declared.slot_steps.Effect.{Effect}
 use Rattle.machine_slot.specs.declared.slot_steps.SlotStep.{SlotStep}
 use Rattle.script.specs.Script.{Script, script_of}
 use Rattle.run.specs.Run.{Run, Write, wrote_by, fetched_by}
+use Rattle.run.specs.declared.given.Scene.{Scene as Lent}
 
 -- what a slot's steps read and none changes: the family, its code RAM with the upload marks, HWSQ_ENABLE and the log
 pub record Scene : Type 0 where
@@ -28,6 +29,10 @@ pub record Scene : Type 0 where
 
 abbrev pub scene_for : ℕ → List ℕ → List ℕ → Bool → Log → Scene
 scene_for family code marks enable log = record { family = family; code = code; marks = marks; enable = enable; log = log }
+
+-- the scene that is lent
+abbrev pub lent_scene : Lent → Scene
+lent_scene s = scene_for s.ram.family s.ram.code.now s.ram.marks.now s.enable (lent_log s.log)
 
 -- what the steps of a script read, with this HWSQ_ENABLE and under this log
 abbrev pub script_scene : Script → Bool → Log → Scene

@@ -3,7 +3,6 @@ use event_log::Place;
 use isa::{CodeAddress, MmioAddress};
 use machine_flags::Flags;
 use machine_state::Slot;
-use refusals::Unreplayable;
 
 // How a run ended.
 #[derive(Clone, Copy)]
@@ -48,16 +47,4 @@ pub struct Progress {
     // clocks spent in waits, and passed by in ewaits
     pub waited: u64,
     pub searched: u64,
-}
-
-#[derive(Clone, Copy)]
-pub enum RunAnswer {
-    Ended(Progress),
-    Refused(Unreplayable),
-}
-
-#[derive(Clone, Copy)]
-pub enum ReplayAnswer {
-    Ended(Replayed),
-    Refused(Unreplayable),
 }

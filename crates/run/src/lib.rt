@@ -2,5 +2,7 @@
 #![tactic(auto)]
 
 mod answers;
+mod given;
 
-pub use answers::{Ending, Progress, ReplayAnswer, Replayed, RunAnswer};
+pub use answers::{Ending, Progress, Replayed};
+pub use given::{Registers, Scene};

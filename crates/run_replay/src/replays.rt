@@ -1,59 +1,48 @@
 // Replay: the run of a script against a recorded log.
 ghost use Rattle.std.specs.Prelude.{◌≡◌, true, ◌+◌, ◌*◌, ◌^◌, ◌<◌, ◌≤◌, length};
 ghost use Rattle.std.proofs.lemmas.List.Edits.{sets};
-ghost use Rattle.isa_fetch.specs.Fetch.{fetch_of};
-ghost use Rattle.event_log.specs.Log.{log_of};
+ghost use Rattle.event_log.specs.Log.{lent_log};
 ghost use Rattle.event_log.specs.Validity.{valid_log};
 ghost use Rattle.log_waits.specs.Left.{left_of};
 ghost use Rattle.machine_slot.specs.SlotStep.{slot_step_of};
 ghost use Rattle.run.specs.Run.{wrote_by, fetched_by};
 ghost use Rattle.run.specs.Replay.{max_entries, ending_of, entries_of, progress_of, told_of, RunsSlot, Replays};
-ghost use Rattle.run.specs.Registers.{registers_of};
-ghost use Rattle.run.specs.SlotRun.{scene_for, slot_begun, slot_at_entry};
-ghost use Rattle.script.specs.Script.{script_of};
+ghost use Rattle.run.specs.Registers.{given_registers};
+ghost use Rattle.run.specs.SlotRun.{lent_scene, fetch_in, slot_begun, slot_at_entry};
+ghost use Rattle.script.specs.Script.{lent_script};
 ghost use Rattle.run_replay.specs.Progress.{progress_after, RunsThrough};
 
-use event_log::Place;
-use isa::{CodeAddress, Decoded, MmioAddress};
+use event_log::{Log, Place};
+use isa::{CodeAddress, MmioAddress};
 use machine_flags::Flags;
 use machine_slot::{Effect, SlotStep};
 use machine_state::{Mode, Slot};
 use refusals::Unreplayable;
-use run::{Ending, Progress, ReplayAnswer, Replayed, RunAnswer};
-use script::script_fits;
+use run::{Ending, Progress, Registers, Replayed, Scene};
+use script::Script;
 
 // Two entries a write, and a script of 512 bytes makes at most 170 writes.
 pub const MAX_ENTRIES: usize = 340;
 
 // Runs the script from its entry, with these registers, under the log. The writes go into the lent entries, address and
 // data of each; the other entries stay as lent.
-pub fn replay<'a>(
-    family: u8,
-    code: &'a [u8],
-    marks: &'a [u8],
-    entry: CodeAddress,
-    addr: MmioAddress,
-    data: u32,
-    flags_0: u32,
-    flags_1: u32,
-    enable: bool,
-    clocks: &'a [u64],
-    known: &'a [u32],
-    values: &'a [u32],
+pub fn replay(
+    script: Script<'_>,
+    registers: Registers,
+    log: Log<'_>,
     writes: &mut [u32],
-) -> ReplayAnswer
-    ensures { Replays (script_of family code.now marks.now entry.0) (registers_of addr.0 «data» flags_0 flags_1 enable)
-        (log_of clocks.now known.now values.now) writes.old writes.new result }
+) -> Result<Replayed, Unreplayable>
+    ensures { Replays (lent_script script.entry) (given_registers registers) (lent_log log.entry) writes.old writes.new result }
 {
-    let slot = slot_at_entry(entry, addr, data);
-    let flags = machine_flags::flags_from_words(flags_0, flags_1);
-    let answer = run(
-        family, code, marks, slot, flags, enable, clocks, known, values, writes,
-    );
-    match answer {
-        RunAnswer::Ended(last) => ReplayAnswer::Ended(told(last, clocks)),
-        RunAnswer::Refused(why) => ReplayAnswer::Refused(why),
-    }
+    let scene = Scene {
+        ram: script.ram,
+        enable: registers.enable,
+        log,
+    };
+    let slot = slot_at_entry(script.entry, registers.addr, registers.data);
+    let flags = machine_flags::flags_from_words(registers.flags_0, registers.flags_1);
+    let last = run(scene, slot, flags, writes)?;
+    Ok(told(last, log.clocks))
 }
 
 // A slot that runs from the entry, with this ADDR and DATA.
@@ -70,34 +59,28 @@ fn slot_at_entry(entry: CodeAddress, addr: MmioAddress, data: u32) -> Slot
 
 // Runs a slot from where it stands, if its IP may be an entry, under the log. The writes go into the lent entries, address
 // and data of each; the other entries stay as lent.
-pub fn run<'a>(
-    family: u8,
-    code: &'a [u8],
-    marks: &'a [u8],
+pub fn run(
+    scene: Scene<'_>,
     slot: Slot,
     flags: Flags,
-    enable: bool,
-    clocks: &'a [u64],
-    known: &'a [u32],
-    values: &'a [u32],
     writes: &mut [u32],
-) -> RunAnswer
-    ensures { RunsSlot
-        (scene_for family code.now marks.now enable (log_of clocks.now known.now values.now))
-        slot flags writes.old writes.new result }
+) -> Result<Progress, Unreplayable>
+    ensures { RunsSlot (lent_scene scene.entry) slot flags writes.old writes.new result }
 {
-    if !script_fits(family, code, marks, slot.ip) {
-        return RunAnswer::Refused(Unreplayable::Input);
+    let script = Script {
+        ram: scene.ram,
+        entry: slot.ip,
+    };
+    if !script.fits() {
+        return Err(Unreplayable::Input);
     }
     if writes.len() < MAX_ENTRIES {
-        return RunAnswer::Refused(Unreplayable::Room);
+        return Err(Unreplayable::Room);
     }
-    if !event_log::valid_log(clocks, known, values) {
-        return RunAnswer::Refused(Unreplayable::Log);
+    if !scene.log.is_valid() {
+        return Err(Unreplayable::Log);
     }
-    RunAnswer::Ended(run_slot_steps(
-        family, code, marks, slot, flags, enable, clocks, known, values, writes,
-    ))
+    Ok(run_slot_steps(scene, slot, flags, writes))
 }
 
 fn begin(slot: Slot, flags: Flags) -> Progress
@@ -115,39 +98,23 @@ fn begin(slot: Slot, flags: Flags) -> Progress
 }
 
 // One instruction: fetched, taken apart, and done.
-fn take_slot_step<'a>(
-    family: u8,
-    code: &'a [u8],
-    marks: &'a [u8],
-    enable: bool,
-    clocks: &'a [u64],
-    known: &'a [u32],
-    values: &'a [u32],
-    progress: Progress,
-) -> SlotStep
-    ensures { result ≡ slot_step_of family enable progress.slot progress.flags (log_of clocks.now known.now values.now)
-        progress.place (fetch_of family code.now marks.now progress.slot.ip.0) }
+fn take_slot_step(scene: Scene<'_>, progress: Progress) -> SlotStep
+    ensures { let x = lent_scene scene.entry in
+        result ≡ slot_step_of x.family x.enable progress.slot progress.flags x.log progress.place (fetch_in x progress.slot.ip.0) }
 {
-    let slot = progress.slot;
-    let flags = progress.flags;
-    let place = progress.place;
-    let ip = slot.ip;
-    let found = isa_fetch::fetch(family, code, marks, ip);
-    let Decoded::Instruction(instruction, length) = found else {
+    let Progress {
+        slot, flags, place, ..
+    } = progress;
+    let found = scene.ram.fetch(slot.ip);
+    let Ok((instruction, length)) = found else {
         let why = isa_fetch::reason_of(found);
-        let next = isa_fetch::past_opcode(ip);
-        return machine_slot::unfetched(family, slot, flags, place, next, why);
+        let next = isa_fetch::past_opcode(slot.ip);
+        return machine_slot::unfetched(scene.ram.family, slot, flags, place, next, why);
     };
     let action = machine_actions::action_of(instruction);
-    let elapsed = machine_time::elapse(action, clocks, known, values, place);
-    machine_slot::perform(
-        enable,
-        slot,
-        flags,
-        action,
-        CodeAddress(ip.0 + length),
-        elapsed,
-    )
+    let elapsed = machine_time::elapse(action, scene.log, place);
+    let next = CodeAddress(slot.ip.0 + length);
+    machine_slot::perform(scene.enable, slot, flags, action, next, elapsed)
 }
 
 // Whether an effect is a fetched instruction, as 0 or 1.
@@ -155,12 +122,9 @@ fn fetched(effect: Effect) -> usize
     ensures { result ≡ fetched_by effect }
 {
     match effect {
-        Effect::Refused(_) => 0,
-        Effect::Nothing => 0,
+        Effect::Refused(_) | Effect::Nothing => 0,
         Effect::Stopped(_) => 0, // a stop is none
-        Effect::Unknown => 1,
-        Effect::Done => 1,
-        Effect::Wrote(_, _) => 1,
+        Effect::Unknown | Effect::Done | Effect::Wrote(_, _) => 1,
     }
 }
 
@@ -169,12 +133,8 @@ fn written(effect: Effect) -> usize
     ensures { result ≡ length (wrote_by effect) }
 {
     match effect {
-        Effect::Refused(_) => 0,
-        Effect::Nothing => 0,
-        Effect::Stopped(_) => 0,
-        Effect::Unknown => 0,
-        Effect::Done => 0,
         Effect::Wrote(_, _) => 1, // one write
+        _ => 0,
     }
 }
 
@@ -183,16 +143,9 @@ fn store(effect: Effect, writes: &mut [u32], at: usize)
     requires { at + 2 * length (wrote_by effect) ≤ length writes.old }
     ensures { writes.new ≡ sets writes.old at (entries_of (wrote_by effect)) }
 {
-    match effect {
-        Effect::Refused(_) => {}
-        Effect::Nothing => {}
-        Effect::Stopped(_) => {}
-        Effect::Unknown => {}
-        Effect::Done => {}
-        Effect::Wrote(address, word) => {
-            writes[at] = address.0;
-            writes[at + 1] = word;
-        }
+    if let Effect::Wrote(address, word) = effect {
+        writes[at] = address.0;
+        writes[at + 1] = word;
     }
 }
 
@@ -201,16 +154,12 @@ fn after_slot_step(progress: Progress, step: SlotStep) -> Progress
         × (progress.waited + step.waited < 2 ^ 64) × (progress.searched + step.searched < 2 ^ 64) }
     ensures { result ≡ progress_after progress step }
 {
-    let slot = step.slot;
-    let flags = step.flags;
-    let place = step.place;
-    let effect = step.effect;
     Progress {
-        slot,
-        flags,
-        place,
-        steps: progress.steps + fetched(effect),
-        writes: progress.writes + written(effect),
+        slot: step.slot,
+        flags: step.flags,
+        place: step.place,
+        steps: progress.steps + fetched(step.effect),
+        writes: progress.writes + written(step.effect),
         waited: progress.waited + step.waited,
         searched: progress.searched + step.searched,
     }
@@ -218,46 +167,24 @@ fn after_slot_step(progress: Progress, step: SlotStep) -> Progress
 
 // Step after step, until the slot does not run, is stopped, as every later step would stop it, or there was one step more than
 // the code RAM has bytes.
-fn run_slot_steps<'a>(
-    family: u8,
-    code: &'a [u8],
-    marks: &'a [u8],
-    slot: Slot,
-    flags: Flags,
-    enable: bool,
-    clocks: &'a [u64],
-    known: &'a [u32],
-    values: &'a [u32],
-    writes: &mut [u32],
-) -> Progress
-    requires { (slot.ip.0 ≤ 512) × (valid_log (log_of clocks.now known.now values.now) ≡ true) × (max_entries ≤ length writes.old) }
-    ensures { RunsThrough
-        (scene_for family code.now marks.now enable (log_of clocks.now known.now values.now))
-        slot flags writes.old writes.new result }
+fn run_slot_steps(scene: Scene<'_>, slot: Slot, flags: Flags, writes: &mut [u32]) -> Progress
+    requires { (slot.ip.0 ≤ 512) × (valid_log (lent_log scene.log) ≡ true) × (max_entries ≤ length writes.old) }
+    ensures { RunsThrough (lent_scene scene.entry) slot flags writes.old writes.new result }
 {
-    let limit = families::code_size(family) + 1;
+    let limit = families::code_size(scene.ram.family) + 1;
     let mut progress = begin(slot, flags);
-    let mut steps = 0;
-    let last = loop {
-        if limit <= steps {
-            break progress;
+    for _step in 0..limit {
+        if !machine_state::is_running(progress.slot.mode) {
+            return progress;
         }
-        let present = progress.slot;
-        let mode = present.mode;
-        if !machine_state::is_running(mode) {
-            break progress;
+        let step = take_slot_step(scene, progress);
+        if fetched(step.effect) == 0 {
+            return progress;
         }
-        let step = take_slot_step(family, code, marks, enable, clocks, known, values, progress);
-        let effect = step.effect;
-        if fetched(effect) == 0 {
-            break progress;
-        }
-        let used = 2 * progress.writes;
-        store(effect, writes, used);
+        store(step.effect, writes, 2 * progress.writes);
         progress = after_slot_step(progress, step);
-        steps += 1;
-    };
-    last
+    }
+    progress
 }
 
 // How a run ended whose slot is in this mode.
@@ -278,17 +205,13 @@ fn told(last: Progress, clocks: &[u64]) -> Replayed
     requires { left_of clocks.now last.place < 2 ^ 64 }
     ensures { result ≡ told_of clocks.now last }
 {
-    let slot = last.slot;
-    let flags = last.flags;
-    let place = last.place;
-    let mode = slot.mode;
-    let ip = slot.ip;
-    let addr = slot.addr;
-    let ending = ending_of(mode);
+    let Progress {
+        slot, flags, place, ..
+    } = last;
     Replayed {
-        ending,
-        ip,
-        addr,
+        ending: ending_of(slot.mode),
+        ip: slot.ip,
+        addr: slot.addr,
         data: slot.data,
         flags_0: machine_flags::flags_word_0(flags),
         flags_1: machine_flags::flags_word_1(flags),

@@ -1,4 +1,5 @@
 -- A script that is audited: what row 9's tests say of it, and the action read at a place. Assumes nothing.
+use Rattle.std.specs.Prelude.{Ok}
 use Prim.Native.Nat.{ℕ, ◌+◌, ◌^◌, ◌≤◌, ◌<◌}
 use mathlib.Core.Path.{◌≡◌, refl}
 use mathlib.Core.Bool.{true}
@@ -9,7 +10,7 @@ use borrow.Author.Tests.{leb-true, eqb-true}
 use Rattle.families.specs.Family.{known_family, code_size, highest_entry}
 use Rattle.isa.specs.Writer.{operands_fit}
 use Rattle.isa.specs.declared.instructions.Instruction.{Instruction}
-use Rattle.isa.specs.declared.reader.Decoded.{Decoded}
+use Rattle.isa.specs.Answers.{Decoded}
 use Rattle.isa.proofs.Clocks.{wait_most}
 use Rattle.families.proofs.Tests.{both_left, both_right, by_family_elim}
 use Rattle.isa_fetch.proofs.Places.{fetch_inside, fetch_lies}
@@ -78,14 +79,14 @@ formed (Instruction.Data d) w = tt
 -- the action at a place, n bytes long
 pub record Reads (x : Script) (p : ℕ) (action : Action) (n : ℕ) : Type 0 where
   pub instruction : Instruction
-  pub found : fetch_at x p ≡ Decoded.Instruction instruction n
+  pub found : fetch_at x p ≡ Ok (instruction, n)
   pub acts : action_of instruction ≡ action
   pub some : 0 < n
   pub inside : p + n ≤ code_size x.family
   pub formed : Formed action
 
 pub fetch_reads : (x : Script) → ((i : ℕ) → get_or x.code i 0 < 2 ^ 8) → (p : ℕ) (i : Instruction) (n : ℕ)
-    → fetch_at x p ≡ Decoded.Instruction i n → Reads x p (action_of i) n
+    → fetch_at x p ≡ Ok (i, n) → Reads x p (action_of i) n
 fetch_reads x bytes p i n e =
     let inside = rw e at (fetch_inside x.family x.code x.marks p bytes) in
     let lies = rw e at (fetch_lies x.family x.code x.marks p) in

@@ -1,9 +1,17 @@
 // Which script may be audited or replayed.
 ghost use Rattle.std.specs.Prelude.{◌≡◌, cond, ltb};
 ghost use Rattle.script.specs.Input.{marks_plain, script_fits};
-ghost use Rattle.script.specs.Script.{script_of};
+ghost use Rattle.script.specs.Script.{lent_script};
 
 use isa::CodeAddress;
+use isa_fetch::CodeRam;
+
+// A script as auditor and replay are given it: the code RAM that it lies in, and where its first instruction stands.
+#[derive(Clone, Copy)]
+pub struct Script<'a> {
+    pub ram: CodeRam<'a>,
+    pub entry: CodeAddress,
+}
 
 fn larger(a: u8, b: u8) -> u8
     ensures { result ≡ cond (ltb a b) b a }
@@ -24,22 +32,29 @@ fn marks_plain(marks: &[u8]) -> bool
     most <= 1
 }
 
-// Whether the family is known, code and marks are of its size, marks are plain and the entry is one that its registers
-// can hold.
-pub fn script_fits<'a>(family: u8, code: &'a [u8], marks: &'a [u8], entry: CodeAddress) -> bool
-    ensures { result ≡ script_fits (script_of family code.now marks.now entry.0) }
-{
-    if !families::known_family(family) {
-        return false;
+impl Script<'_> {
+    // Whether the family is known, code and marks are of its size, marks are plain and the entry is one that its registers
+    // can hold.
+    pub fn fits(self) -> bool
+        ensures { result ≡ script_fits (lent_script self.entry) }
+    {
+        let CodeRam {
+            family,
+            code,
+            marks,
+        } = self.ram;
+        if !families::known_family(family) {
+            return false;
+        }
+        if code.len() != families::code_size(family) {
+            return false;
+        }
+        if marks.len() != families::code_size(family) {
+            return false;
+        }
+        if !marks_plain(marks) {
+            return false;
+        }
+        self.entry.0 <= families::highest_entry(family)
     }
-    if code.len() != families::code_size(family) {
-        return false;
-    }
-    if marks.len() != families::code_size(family) {
-        return false;
-    }
-    if !marks_plain(marks) {
-        return false;
-    }
-    entry.0 <= families::highest_entry(family)
 }

@@ -4,5 +4,5 @@
 mod input;
 mod ranges;
 
-pub use input::script_fits;
+pub use input::Script;
 pub use ranges::{MAX_RANGES, holds, listed, ranges_fit};

@@ -1,3 +1,4 @@
+use Rattle.std.specs.Prelude.{Err}
 use Prim.Native.Nat.{ℕ, ◌-◌, ◌<◌}
 use mathlib.Core.Path.{◌≡◌, sym, ap, subst, ◌∙◌}
 use mathlib.Core.List.{List}
@@ -7,7 +8,7 @@ use borrow.Author.Tests.{lt-ltb, le-ltb, eq-eqb, ne_eqb}
 use Rattle.families.specs.Family.{code_size}
 use Rattle.isa.specs.Reader.{decode_of, decoded_number}
 use Rattle.isa.specs.Codec.{OneSpelling}
-use Rattle.isa.specs.declared.reader.Decoded.{Decoded}
+use Rattle.isa.specs.Answers.{Decoded}
 use Rattle.refusals.specs.declared.refusals.Unreadable.{Unreadable}
 use Rattle.isa_fetch.specs.Fetch.{code_ram_of, check_marks, fetch_of, Inside, Fetches}
 use Rattle.isa_fetch.proofs.Numbers.{fetch_numbered}
@@ -15,8 +16,8 @@ use Rattle.isa_fetch.proofs.Places.{part, inside_of}
 use Rattle.isa_fetch.proofs.fetch.Goals as goal
 
 -- a refusal holds no instruction, so nothing of it has to lie in the RAM
-refused : {family : ℕ} {code marks : List ℕ} {at : ℕ} (why : Unreadable) → Decoded.Refused why ≡ fetch_of family code marks at
-    → Fetches family code marks at (Decoded.Refused why)
+refused : {family : ℕ} {code marks : List ℕ} {at : ℕ} (why : Unreadable) → Err why ≡ fetch_of family code marks at
+    → Fetches family code marks at (Err why)
 refused {family} {code} {marks} {at} why e = record { answered = e; numbered = ap decoded_number e ∙ fetch_numbered family code marks at; inside = tt }
 
 pub returns-then-end-at : goal.returns-then-end-at

@@ -1,3 +1,4 @@
+use Rattle.std.specs.Prelude.{Ok}
 use Prim.Native.Nat.{ℕ, ◌+◌, ◌≤◌, ◌<◌}
 use mathlib.Core.Path.{◌≡◌, sym, ap, subst, ◌∙◌}
 use mathlib.Core.List.{List}
@@ -5,7 +6,7 @@ use native.Mathlib.Omega.{arith}
 use lib.ListN.{length-take}
 use Rattle.families.specs.Family.{code_size}
 use Rattle.isa.specs.declared.instructions.Instruction.{Instruction}
-use Rattle.isa.specs.declared.reader.Decoded.{Decoded}
+use Rattle.isa.specs.Answers.{Decoded}
 use Rattle.families.proofs.Tests.{both_left}
 use Rattle.refusals.specs.declared.refusals.Fault.{Fault}
 use Rattle.isa_fetch.specs.Fetch.{reason_of}
@@ -32,7 +33,7 @@ know_next-known-requires c =
     let x : Script = script in
     let instruction : Instruction = c.in-Instruction.instruction in
     let its_size : ℕ = c.in-Instruction.length in
-    let fetched : fetch_at x c.loop-instruction.at ≡ Decoded.Instruction instruction its_size = sym c.fetch-found.ensures.answered ∙ c.in-Instruction.is in
+    let fetched : fetch_at x c.loop-instruction.at ≡ Ok (instruction, its_size) = sym c.fetch-found.ensures.answered ∙ c.in-Instruction.is in
     let lies : (0 < its_size) × (c.loop-instruction.at + its_size ≤ code_size x.family) =
     let i = rw c.in-Instruction.is at c.fetch-found.ensures.inside in
     (i.0, omega (arith, i.2, length-take (code_size x.family) x.code)) in
@@ -55,7 +56,7 @@ loop-instruction-preserved c =
     let x : Script = script in
     let instruction : Instruction = c.in-Instruction.instruction in
     let its_size : ℕ = c.in-Instruction.length in
-    let fetched : fetch_at x c.loop-instruction.at ≡ Decoded.Instruction instruction its_size = sym c.fetch-found.ensures.answered ∙ c.in-Instruction.is in
+    let fetched : fetch_at x c.loop-instruction.at ≡ Ok (instruction, its_size) = sym c.fetch-found.ensures.answered ∙ c.in-Instruction.is in
     let lies : (0 < its_size) × (c.loop-instruction.at + its_size ≤ code_size x.family) =
     let i = rw c.in-Instruction.is at c.fetch-found.ensures.inside in
     (i.0, omega (arith, i.2, length-take (code_size x.family) x.code)) in
@@ -81,7 +82,7 @@ returns-in-Exit c =
     let x : Script = script in
     let instruction : Instruction = c.in-Instruction.instruction in
     let its_size : ℕ = c.in-Instruction.length in
-    let fetched : fetch_at x c.loop-instruction.at ≡ Decoded.Instruction instruction its_size = sym c.fetch-found.ensures.answered ∙ c.in-Instruction.is in
+    let fetched : fetch_at x c.loop-instruction.at ≡ Ok (instruction, its_size) = sym c.fetch-found.ensures.answered ∙ c.in-Instruction.is in
     let lies : (0 < its_size) × (c.loop-instruction.at + its_size ≤ code_size x.family) =
     let i = rw c.in-Instruction.is at c.fetch-found.ensures.inside in
     (i.0, omega (arith, i.2, length-take (code_size x.family) x.code)) in
@@ -97,7 +98,7 @@ returns-in-Bad c =
     let x : Script = script in
     let instruction : Instruction = c.in-Instruction.instruction in
     let its_size : ℕ = c.in-Instruction.length in
-    let fetched : fetch_at x c.loop-instruction.at ≡ Decoded.Instruction instruction its_size = sym c.fetch-found.ensures.answered ∙ c.in-Instruction.is in
+    let fetched : fetch_at x c.loop-instruction.at ≡ Ok (instruction, its_size) = sym c.fetch-found.ensures.answered ∙ c.in-Instruction.is in
     let lies : (0 < its_size) × (c.loop-instruction.at + its_size ≤ code_size x.family) =
     let i = rw c.in-Instruction.is at c.fetch-found.ensures.inside in
     (i.0, omega (arith, i.2, length-take (code_size x.family) x.code)) in

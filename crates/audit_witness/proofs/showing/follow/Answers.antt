@@ -1,8 +1,9 @@
+use Rattle.std.specs.Prelude.{Ok}
 use Prim.Native.Nat.{ℕ, ◌+◌, ◌≤◌, ◌<◌}
 use mathlib.Core.Path.{◌≡◌, sym, ◌∙◌}
 use native.Mathlib.Omega.{arith}
 use Rattle.isa.specs.declared.instructions.Instruction.{Instruction}
-use Rattle.isa.specs.declared.reader.Decoded.{Decoded}
+use Rattle.isa.specs.Answers.{Decoded}
 use Rattle.event_log.specs.Log.{Log, log_of}
 use Rattle.event_log.proofs.Columns.{Room}
 use Rattle.script.specs.Script.{Script, script_of, fetch_at}
@@ -25,7 +26,7 @@ loop-at-smaller c =
     let room : Room max_shown lent = let p = c.requires in record { clocks = p.2; known = p.3; values = p.4 } in
     let instruction : Instruction = c.in-Instruction.instruction in
     let its_size : ℕ = c.in-Instruction.length in
-    let fetched : fetch_at script c.loop-at.at ≡ Decoded.Instruction instruction its_size = sym c.fetch-found.ensures.answered ∙ c.in-Instruction.is in
+    let fetched : fetch_at script c.loop-at.at ≡ Ok (instruction, its_size) = sym c.fetch-found.ensures.answered ∙ c.in-Instruction.is in
     let apart : c.loop-at.at ≡ c.args.place.0 → ⊥ = c.if-at-place.false in
     let lies : (0 < its_size) × (c.loop-at.at + its_size ≤ 512) = inside c.loop-at.invariant room apart instruction its_size fetched in
     omega (arith, lies)
@@ -37,7 +38,7 @@ loop-at-preserved c =
     let room : Room max_shown lent = let p = c.requires in record { clocks = p.2; known = p.3; values = p.4 } in
     let instruction : Instruction = c.in-Instruction.instruction in
     let its_size : ℕ = c.in-Instruction.length in
-    let fetched : fetch_at script c.loop-at.at ≡ Decoded.Instruction instruction its_size = sym c.fetch-found.ensures.answered ∙ c.in-Instruction.is in
+    let fetched : fetch_at script c.loop-at.at ≡ Ok (instruction, its_size) = sym c.fetch-found.ensures.answered ∙ c.in-Instruction.is in
     let apart : c.loop-at.at ≡ c.args.place.0 → ⊥ = c.if-at-place.false in
     making_next c.loop-at.invariant room apart instruction its_size fetched c.action_of.ensures c.extend-made.ensures
 

@@ -1,3 +1,4 @@
+use Rattle.std.specs.Prelude.{Ok, Err}
 use Prim.Native.Nat.{ℕ}
 use mathlib.Core.Path.{◌≡◌, refl, sym, ap, ◌∙◌}
 use mathlib.Core.Bool.{true}
@@ -10,16 +11,16 @@ use Rattle.isa.specs.Reader.{decode_of}
 use Rattle.isa.specs.Writer.{opcode_of, on_family, operands_fit, spell, encode_of, encoded_number}
 use Rattle.isa.specs.Codec.{Writes}
 use Rattle.isa.specs.declared.instructions.Instruction.{Instruction}
-use Rattle.isa.specs.declared.reader.Decoded.{Decoded}
-use Rattle.isa.specs.declared.encoding.Encoded.{Encoded}
+use Rattle.isa.specs.Answers.{Decoded}
+use Rattle.isa.specs.Answers.{Encoded}
 use Rattle.refusals.specs.declared.refusals.Unwritable.{Unwritable}
 use Rattle.isa.proofs.Codec.{Writable, reads_back}
 use Rattle.isa.proofs.Writing.{no_family, not_on, bad_operand, no_room, written, write_numbered}
 use Rattle.isa_writer.proofs.writer.encode.Goals as goal
 
 -- a refusal leaves the lent bytes as they were
-refused : {f : ℕ} {i : Instruction} {old : List ℕ} (why : Unwritable) → Encoded.Refused why ≡ encode_of f i (length old)
-    → Writes f i old old (Encoded.Refused why)
+refused : {f : ℕ} {i : Instruction} {old : List ℕ} (why : Unwritable) → Err why ≡ encode_of f i (length old)
+    → Writes f i old old (Err why)
 refused {f} {i} {old} why e = record { answered = e; numbered = ap encoded_number e ∙ write_numbered f i (length old); lent = refl; reads_back = tt }
 
 pub returns-then-not-known_family : goal.returns-then-not-known_family
@@ -41,8 +42,8 @@ returns-then-not-operands_fit c =
     refused Unwritable.Operand (bad_operand _ _ _ family on
     (sym c.operands_fit.ensures ∙ c.if-not-operands_fit.true))
 
-pub returns-then-n-out : goal.returns-then-n-out
-returns-then-n-out c =
+pub returns : goal.returns
+returns c =
     let family : known_family c.args.family ≡ true = sym c.known_family.ensures ∙ c.if-not-known_family.false in
     let on_is : let a = c.args in c.on_family.result ≡ on_family a.family (opcode_of a.instruction)
     = c.on_family.ensures ∙ ap (on_family c.args.family) c.opcode_of.ensures in
@@ -62,18 +63,18 @@ returns-then-n-out c =
       fit = fit;
       in_type = c.spelled-spelling.ensures.1;
     } in
-    let answered : Encoded.Length n ≡ encode_of a.family a.instruction (length a.out.now) = ap Encoded.Length w
+    let answered : Ok n ≡ encode_of a.family a.instruction (length a.out.now) = ap Ok w
     ∙ written _ _ _ ok.family ok.on ok.fit (omega (arith, w)) in
     record {
       answered = answered;
       numbered = ap encoded_number answered ∙ write_numbered a.family a.instruction (length a.out.now);
       lent = e;
       reads_back = λ (after : List ℕ). ap (λ (b : List ℕ). decode_of a.family (b ++ after)) front ∙ reads_back a.family a.instruction after ok
-          ∙ ap (Decoded.Instruction a.instruction) (sym w);
+          ∙ ap (λ (n : ℕ). Ok (a.instruction, n)) (sym w);
     }
 
-pub returns : goal.returns
-returns c =
+pub returns-then-out-n : goal.returns-then-out-n
+returns-then-out-n c =
     let family : known_family c.args.family ≡ true = sym c.known_family.ensures ∙ c.if-not-known_family.false in
     let on_is : let a = c.args in c.on_family.result ≡ on_family a.family (opcode_of a.instruction)
     = c.on_family.ensures ∙ ap (on_family c.args.family) c.opcode_of.ensures in

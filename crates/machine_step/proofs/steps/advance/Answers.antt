@@ -1,6 +1,7 @@
+use Rattle.std.specs.Prelude.{Ok, Err}
 use mathlib.Core.Path.{◌≡◌, refl, sym, ap, ◌∙◌}
 use Rattle.isa.specs.declared.addresses.CodeAddress.{CodeAddress}
-use Rattle.isa.specs.declared.reader.Decoded.{Decoded}
+use Rattle.isa.specs.Answers.{Decoded}
 use Rattle.isa_fetch.specs.Fetch.{fetch_of, reason_of}
 use Rattle.event_log.specs.Log.{Log, log_of}
 use Rattle.machine_state.specs.declared.slots.Slot.{Slot}
@@ -26,7 +27,7 @@ returns-in_default c =
     advance_slot_step _ _ _ _ slot c.slot_of-slot.ensures (sym c.can_run.ensures
     ∙ c.if-not-can_run.false) fetched refl t e in
     let s = c.args.state in
-    let at : fetched ≡ Decoded.Refused c.in_default.field-0 = sym c.fetch-found.ensures.answered ∙ c.in_default.is in
+    let at : fetched ≡ Err c.in_default.field-0 = sym c.fetch-found.ensures.answered ∙ c.in_default.is in
     let step = c.unfetched-stray.ensures
     ∙ slot_step_unfetched s.family s.code s.marks s.enable slot s.flags log c.args.at c.in_default.field-0 at
     c.past_opcode-next.result.0 (ap (λ (p : CodeAddress). p.0) c.past_opcode-next.ensures)
@@ -43,7 +44,7 @@ returns c =
     advance_slot_step _ _ _ _ slot c.slot_of-slot.ensures (sym c.can_run.ensures
     ∙ c.if-not-can_run.false) fetched refl t e in
     let s = c.args.state in
-    let at : fetched ≡ Decoded.Instruction c.in-Instruction.instruction c.in-Instruction.length = sym c.fetch-found.ensures.answered ∙ c.in-Instruction.is in
+    let at : fetched ≡ Ok (c.in-Instruction.instruction, c.in-Instruction.length) = sym c.fetch-found.ensures.answered ∙ c.in-Instruction.is in
     let step = c.perform-step.ensures
     ∙ slot_step_performed s.family s.code s.marks s.enable slot s.flags log c.args.at c.in-Instruction.instruction c.in-Instruction.length at
     c.action_of-action.result c.action_of-action.ensures c.elapse-elapsed.result c.elapse-elapsed.ensures.answered in

@@ -1,3 +1,4 @@
+use Rattle.std.specs.Prelude.{Ok}
 use mathlib.Core.Path.{refl, ap, sym, ◌∙◌}
 use native.Mathlib.Omega.{arith}
 use borrow.Author.Tests.{le-leb, lt-leb}
@@ -33,4 +34,4 @@ unfolding run_answer_of
 returns c =
     let fits = sym c.script_fits.ensures ∙ c.if-not-script_fits.false in
     let log = sym c.valid_log.ensures ∙ c.if-not-valid_log.false in
-    runs_slot (ap RunAnswer.Ended c.run_slot_steps.ensures.at_run ∙ simp (fits, le-leb _ _ c.if-writes-lt-MAX_ENTRIES.false, log)) c.run_slot_steps.ensures.lent
+    runs_slot (ap Ok c.run_slot_steps.ensures.at_run ∙ simp (fits, le-leb _ _ c.if-writes-lt-MAX_ENTRIES.false, log)) c.run_slot_steps.ensures.lent
