@@ -21,42 +21,28 @@ pub fn clocks_in_range(clocks: u64) -> bool
 fn rows_in_range(clocks: &[u64]) -> bool
     ensures { result ≡ rows_in_range clocks.now }
 {
-    let mut row = 0;
-    while row < clocks.len() {
-        if !clocks_in_range(clocks[row]) {
-            return false;
-        }
-        row += 1;
-    }
-    true
+    clocks.iter().all(|clocks| clocks_in_range(*clocks))
 }
 
 // Whether the columns are a log: at most 1,024 rows, columns of equal length, clocks in range.
+#[tactic(auto, unfolding(crate::specs::Validity::valid_log))]
 pub fn valid_log<'a>(clocks: &'a [u64], known: &'a [u32], values: &'a [u32]) -> bool
     ensures { result ≡ valid_log (log_of clocks.now known.now values.now) }
 {
-    if MAX_ROWS < clocks.len() {
-        return false;
-    }
-    if known.len() != clocks.len() {
-        return false;
-    }
-    if values.len() != clocks.len() {
-        return false;
-    }
-    rows_in_range(clocks)
+    clocks.len() <= MAX_ROWS
+        && known.len() == clocks.len()
+        && values.len() == clocks.len()
+        && rows_in_range(clocks)
 }
 
 // Whether the place lies in the log: in a row with clocks left, or at the log's end.
+#[tactic(auto, unfolding(crate::specs::Validity::valid_place))]
 pub fn valid_place(clocks: &[u64], at: Place) -> bool
     ensures { result ≡ valid_place clocks.now at }
 {
-    let row = at.row;
-    if row < clocks.len() {
-        return at.used < clocks[row];
+    if at.row < clocks.len() {
+        at.used < clocks[at.row]
+    } else {
+        at.row == clocks.len() && at.used == 0
     }
-    if row == clocks.len() {
-        return at.used == 0;
-    }
-    false
 }
