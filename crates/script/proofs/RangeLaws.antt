@@ -1,14 +1,12 @@
 -- Ranges, one pair at a time, and marks. Assumes nothing.
-use Prim.Native.Nat.{ℕ, ◌+◌, ◌*◌, ◌%◌, ◌≤◌, ◌<◌}
+use Prim.Native.Nat.{ℕ, ◌*◌, ◌%◌, ◌≤◌, ◌<◌}
 use mathlib.Core.Path.{◌≡◌, refl, sym, ap, ◌∙◌}
 use mathlib.Core.Bool.{Bool, true, false, not, ◌&&◌, and-true, and-false, and_assoc}
 use mathlib.Core.List.{List, [], ◌∷◌}
-use native.Mathlib.Numerals.{add-one}
 use native.Mathlib.Omega.{arith}
 use borrow.Author.Tests.{leb-true}
 use lib.Dec.{leb, ltb}
-use lib.ListN.{length, get_or, drop}
-use lib.Seq.{drop-cons}
+use lib.ListN.{length, get_or}
 use Rattle.std.proofs.Common.{◌||◌, ◌++◌, max, length-append}
 use Rattle.std.proofs.lemmas.Grind.{common_steps}
 use Rattle.std.proofs.lemmas.Iterator.{YieldsList}
@@ -20,16 +18,6 @@ use Rattle.std.proofs.lemmas.Bool.Decides.{nat_tests}
 use Rattle.families.specs.Family.{within}
 use Rattle.families.proofs.Tests.{both_left, both_right}
 use Rattle.script.specs.Input.{listed_in, ranges_paired, marks_plain, max_ranges, ranges_fit}
-
-pub drop_next : (l : List ℕ) (i : ℕ) → i < length l → drop i l ≡ get_or l i 0 ∷ drop (i + 1) l
-drop_next l i h = rw add-one (drop-cons l i 0 h)
-
-module _ (ranges : List ℕ) (i : ℕ) where
-  pub drop_pair : i + 1 < length ranges → drop i ranges ≡ get_or ranges i 0 ∷ get_or ranges (i + 1) 0 ∷ drop (i + 2) ranges
-  drop_pair h =
-      let z : i + 1 + 1 ≡ i + 2 = omega arith in
-      drop_next ranges i (omega arith) ∙ ap (λ (l : List ℕ). get_or ranges i 0 ∷ l)
-      (drop_next ranges (i + 1) h ∙ ap (λ (n : ℕ). get_or ranges (i + 1) 0 ∷ drop n ranges) z)
 
 -- ---- ranges in pairs, as `chunks_exact(2)` takes them from a list
 
