@@ -20,12 +20,10 @@ pub fn put_hex(out: &mut [u8; 65536], at: usize, n: u32) -> usize
     ensures { PutsHex out.old at n result out.new }
 {
     let mut text = [0u8; WIDTH];
-    let mut first = WIDTH;
     let mut rest = n;
-    while 0 < first {
-        first -= 1;
-        text[first] = hex_digit(rest);
-        rest = rest / 16;
+    for place in (0..WIDTH).rev() {
+        text[place] = hex_digit(rest);
+        rest /= 16;
     }
     put_bytes(out, at, &text)
 }
