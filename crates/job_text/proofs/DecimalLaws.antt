@@ -52,11 +52,12 @@ pub end : (text : List ℕ) (first rest : ℕ)
     → 0 < first
     → first ≤ length text
     → rest < 10
-    → drop (first - 1) (set text (first - 1) (digit rest)) ≡ decimal_in first rest ++ drop first text
+    → drop (first - 1) (set text (first - 1) (digit (rest % 10))) ≡ decimal_in first rest ++ drop first text
 end text zero rest p h k = absurd (let z : ⊥ = omega arith in z)
 end text (suc j) rest p h k =
-    ap (λ (m : ℕ). drop m (set text m (digit rest))) (less j)
-    ∙ stored text j (digit rest) (omega arith)
+    ap (λ (m : ℕ). drop m (set text m (digit (rest % 10)))) (less j)
+    ∙ stored text j (digit (rest % 10)) (omega arith)
+    ∙ ap (λ (d : ℕ). digit d ∷ drop (suc j) text) (omega arith)
     ∙ ap (λ (l : List ℕ). l ++ drop (suc j) text) (sym (last_digit j rest k))
 
 -- there is room for the digits still to come

@@ -12,7 +12,11 @@ fn hex_digit(n: u32) -> u8
     ensures { result ≡ hex_digit n }
 {
     let digit = (n % 16) as u8;
-    if digit < 10 { 48 + digit } else { 87 + digit }
+    if digit < 10 {
+        b'0' + digit
+    } else {
+        b'a' + (digit - 10)
+    }
 }
 
 // Puts the word's eight digits at a place of the buffer, and answers the place after them.
