@@ -142,7 +142,7 @@ returns c =
     let run =
     both_stored d at (rows ++ probe_lines j) (last_lines j.state (progress_of (job_run j)))
     (both_stored d at rows (probe_lines j)
-    (both_stored d at writes (row_lines 0 (known_of j)) (stored_as _ _ pairs c.put_writes-b.ensures) c.put_known-c.ensures)
+    (both_stored d at writes (row_lines 0 (known_of j)) (stored_as _ _ pairs c.put_writes-b.ensures) c.put_rows-c.ensures)
     c.put_events-d.ensures)
     (stored_as _ _ (ap (last_lines j.state) ran_job.came) c.put_last.ensures) in
     job_reports c.args.job.now lent_bytes read.result read.ensures.answered c.if-number-ne0.false ready c.put_verdict-a.ensures.out_len
