@@ -7,11 +7,10 @@ ghost use Rattle.script.specs.Input.{max_ranges};
 ghost use Rattle.machine_state.specs.Sequencer.{state_from};
 ghost use Rattle.job_records.specs.Started.{script_in};
 ghost use Rattle.job_records.specs.Started.{executing as Started·executing};
-ghost use Rattle.job_report.specs.JobScript.{word_of, status_of};
+ghost use Rattle.job_report.specs.JobScript.{status_of};
 ghost use Rattle.job_output.specs.Inside.{RunsScript};
 
 use audit_verdict::Verdict;
-use host_registers::ReadAnswer;
 use isa::MmioAddress;
 use machine_state::{Sequencer, Slot, SlotName, State};
 use run::RunAnswer;
@@ -93,18 +92,9 @@ pub(crate) fn run_code<'a>(
     )
 }
 
-fn word_of(reading: ReadAnswer) -> u32
-    ensures { result ≡ word_of reading }
-{
-    match reading {
-        ReadAnswer::Word(word) => word,
-        ReadAnswer::Refused(_) => 0,
-    }
-}
-
 // The register STATUS.
 pub(crate) fn status_of(state: State) -> u32
     ensures { result ≡ status_of state }
 {
-    word_of(host_access::read_register(state, MmioAddress(STATUS)))
+    host_access::read_register(state, MmioAddress(STATUS)).unwrap_or(0)
 }
