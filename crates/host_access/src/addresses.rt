@@ -78,16 +78,8 @@ pub(crate) fn register_at(family: u8, address: MmioAddress) -> Register
 pub(crate) fn is_writable(register: Register) -> bool
     ensures { result ≡ is_writable register }
 {
-    match register {
-        Register::Control => true,
-        Register::EntryPoint => true,
-        Register::Status => false,
-        Register::Trigger => true,
-        Register::Flags0 => true,
-        Register::Flags1 => true,
-        Register::EntryPointHigh => true,
-        Register::Code(_) => true,
-        Register::Events => false,
-        Register::Unlisted => false,
-    }
+    !matches!(
+        register,
+        Register::Status | Register::Events | Register::Unlisted
+    )
 }
