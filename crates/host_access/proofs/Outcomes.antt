@@ -1,38 +1,17 @@
 -- What the tests of an access come to, and what it leaves. Assumes nothing.
-use Prim.Native.Nat.{ℕ, ◌/◌, ◌%◌}
-use mathlib.Core.Path.{◌≡◌, refl, sym, ◌∙◌}
+use Prim.Native.Nat.{ℕ}
+use mathlib.Core.Path.{◌≡◌, refl}
 use mathlib.Core.Bool.{Bool, true, false, cond}
 use Rattle.std.specs.Prelude.{Result, Ok, Err, is_ok}
 use Rattle.families.specs.Family.{known_family}
 use Rattle.isa.specs.declared.addresses.MmioAddress.{MmioAddress}
 use Rattle.refusals.specs.declared.refusals.Inaccessible.{Inaccessible}
-use Rattle.machine_state.specs.Slot.{slot_of, with_slot}
-use Rattle.machine_state.specs.declared.slots.Slot.{Slot}
-use Rattle.machine_state.specs.declared.slots.SlotName.{SlotName}
 use Rattle.machine_state.specs.declared.state.State.{State}
 use Rattle.host_registers.specs.Access.{done, refused, after_write, is_taken, write_of}
-use Rattle.host_registers.specs.Entry.{entry_point}
 use Rattle.host_registers.specs.Register.{register_at, is_writable}
-use Rattle.host_registers.specs.Trigger.{is_start, slot_named, started_at, aborted, after_trigger}
 use Rattle.host_registers.specs.declared.access.Access.{Access}
 use Rattle.host_registers.specs.declared.registers.Register.{Register}
 use Rattle.host_access.specs.Inside.{write_outcome}
-
--- a trigger writes one slot, started or aborted
-pub triggered_as : (s : State) (word : ℕ)
-    → let name = slot_named s.family word in
-    let slot = slot_of s name in
-    with_slot s name (cond (is_start word) (started_at slot (entry_point s.family s.entries s.entries_high (word / 4 % 4))) (aborted slot)) s.flags
-    ≡ after_trigger s word
-unfolding after_trigger
-triggered_as s word = chosen (is_start word) _ _
-  where
-    name : SlotName
-    name = slot_named s.family word
-
-    chosen : (b : Bool) (x y : Slot) → with_slot s name (cond b x y) s.flags ≡ cond b (with_slot s name x s.flags) (with_slot s name y s.flags)
-    chosen true x y = refl
-    chosen false x y = refl
 
 module _ (s : State) (address : MmioAddress) (word : ℕ) where
   abbrev register : Register

@@ -18,6 +18,7 @@ use machine_state::{Sequencer, State, sequencer_of, state_from};
 use refusals::Inaccessible;
 
 // The sequencer after a word is written to a register that takes one; a code register's bytes are stored in place.
+#[tactic(auto, unfolding(host_registers::specs::Code::after_upload))]
 fn after_write(
     mut sequencer: Sequencer,
     register: Register,
@@ -63,6 +64,7 @@ fn is_taken(address: MmioAddress, word: u32, executing: bool) -> bool
 }
 
 // The tests of a write, in their order.
+#[tactic(auto, unfolding(crate::specs::Inside::write_outcome))]
 fn write_outcome(family: u8, register: Register, taken: bool) -> Result<(), Inaccessible>
     ensures { result ≡ write_outcome family register taken }
 {
@@ -140,6 +142,7 @@ fn reading_of(state: State, register: Register) -> Result<u32, Inaccessible>
 }
 
 // The word that the host reads at an address.
+#[tactic(auto, using(host_registers::proofs::AccessLaws::host_reads), unfolding(host_registers::specs::Access::read_of))]
 pub fn read_register(state: State, address: MmioAddress) -> Result<u32, Inaccessible>
     ensures { HostReads state address result }
 {

@@ -48,6 +48,7 @@ fn code_in(size: usize, offset: u32) -> Register
 }
 
 // The code register at an address: CODE, which shows 256 bytes at most, or NEW_CODE.
+#[tactic(auto, unfolding(host_registers::specs::Register::code_at))]
 fn code_at(family: u8, at: u32) -> Register
     ensures { result ≡ code_at family at }
 {
@@ -58,6 +59,7 @@ fn code_at(family: u8, at: u32) -> Register
     }
 }
 
+#[tactic(auto, unfolding(host_registers::specs::Register::register_at))]
 pub(crate) fn register_at(family: u8, address: MmioAddress) -> Register
     ensures { result ≡ register_at family address }
 {
