@@ -82,6 +82,7 @@ fn write_outcome(family: u8, register: Register, taken: bool) -> Result<(), Inac
 
 // The host writes a word at an address of a sequencer whose code RAM is lent: tested and made in one call. A refused write
 // leaves all as it is.
+#[tactic(auto, using(host_registers::proofs::RegisterLaws::register_in_room))]
 pub fn write(
     mut sequencer: Sequencer,
     address: MmioAddress,
@@ -103,6 +104,7 @@ pub fn write(
 }
 
 // The state after the host writes a word at an address; a refused write leaves it as it is.
+#[tactic(auto, using(host_registers::proofs::AccessLaws::host_writes))]
 pub fn write_register(state: State, address: MmioAddress, word: u32) -> Access
     ensures { HostWrites state address word result }
 {
@@ -142,7 +144,7 @@ fn reading_of(state: State, register: Register) -> Result<u32, Inaccessible>
 }
 
 // The word that the host reads at an address.
-#[tactic(auto, using(host_registers::proofs::AccessLaws::host_reads), unfolding(host_registers::specs::Access::read_of))]
+#[tactic(auto, using(host_registers::proofs::RegisterLaws::register_in_room))]
 pub fn read_register(state: State, address: MmioAddress) -> Result<u32, Inaccessible>
     ensures { HostReads state address result }
 {

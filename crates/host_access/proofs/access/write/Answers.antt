@@ -1,12 +1,8 @@
 use mathlib.Core.Path.{sym, ◌∙◌}
-use Rattle.host_registers.proofs.RegisterLaws.{register_in_room}
 use Rattle.host_registers.proofs.AccessLaws.{in_place}
 use Rattle.machine_state.specs.Sequencer.{state_from}
 use Rattle.host_access.proofs.Outcomes.{written_as}
 use Rattle.host_access.proofs.access.write.Goals as goal
-
-pub after_write-sequencer-requires : goal.after_write-sequencer-requires
-after_write-sequencer-requires c = rw c.register_at-register.ensures (register_in_room _ _)
 
 pub returns-then-is_ok : goal.returns-then-is_ok
 returns-then-is_ok c =
