@@ -1,4 +1,4 @@
-use mathlib.Core.Path.{sym, ◌∙◌}
+use Rattle.std.proofs.Common.{rules}
 use Rattle.host_registers.proofs.AccessLaws.{in_place}
 use Rattle.machine_state.specs.Sequencer.{state_from}
 use Rattle.host_access.proofs.Outcomes.{written_as}
@@ -7,13 +7,9 @@ use Rattle.host_access.proofs.access.write.Goals as goal
 pub returns-then-is_ok : goal.returns-then-is_ok
 returns-then-is_ok c =
     let state = state_from c.args.sequencer c.args.code.now c.args.marks.now in
-    let outcome_is = c.write_outcome-outcome.ensures ∙ simp (c.is_taken.ensures, c.some_executes-executing.ensures) in
-    in_place state _ _ (written_as state _ _ c.register_at-register.ensures outcome_is
-    (rw (sym c.is_ok.ensures.value ∙ c.if-is_ok.true) c.after_write-sequencer.ensures))
+    in_place state _ _ (written_as state _ _ c.register_at-register.ensures (search rules) (search rules))
 
 pub returns-else-is_ok : goal.returns-else-is_ok
 returns-else-is_ok c =
     let state = state_from c.args.sequencer c.args.code.now c.args.marks.now in
-    let outcome_is = c.write_outcome-outcome.ensures ∙ simp (c.is_taken.ensures, c.some_executes-executing.ensures) in
-    in_place state _ _ (written_as state _ _ c.register_at-register.ensures outcome_is
-    (rw (sym c.is_ok.ensures.value ∙ c.if-is_ok.false)))
+    in_place state _ _ (written_as state _ _ c.register_at-register.ensures (search rules) (search rules))
