@@ -2,7 +2,6 @@
 use Rattle.std.specs.Prelude.{ℕ, zero, suc, ◌+◌, ◌≡◌, Bool, true, false, cond, ◌&&◌, List, ltb, eqb, Ok, Err, Some, None, Option}
 use Rattle.refusals.specs.Number.{fault_number}
 use Rattle.families.specs.Family.{code_size, pauses_memory}
-use Rattle.isa.specs.Answers.{Decoded}
 use Rattle.refusals.specs.declared.refusals.Unreadable.{Unreadable}
 use Rattle.machine_actions.specs.Action.{action_of, merge_of}
 use Rattle.machine_actions.specs.declared.actions.Action.{Action}
