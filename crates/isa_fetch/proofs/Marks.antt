@@ -12,7 +12,6 @@ use borrow.Author.Tests.{eq-eqb, ne_eqb, eqb-true}
 use Rattle.isa.specs.Opcode.{size_of, is_unknown_opcode}
 use Rattle.isa.specs.Reader.{read_as}
 use Rattle.isa.specs.declared.opcodes.Opcode.{Opcode}
-use Rattle.isa.specs.Answers.{Decoded}
 use Rattle.refusals.specs.declared.refusals.Unreadable.{Unreadable}
 use Rattle.families.proofs.Tests.{both_left, both_right}
 use Rattle.isa_fetch.specs.Fetch.{all_marked, check_marks}

@@ -46,14 +46,10 @@ impl CodeRam<'_> {
 fn all_marked(marks: &[u8], at: usize, n: usize) -> bool
     ensures { result ≡ all_marked n marks.now at }
 {
-    let mut i = at;
-    let mut left = n;
-    while 0 < left {
-        if byte_at(marks, i) != 1 {
+    for i in 0..n {
+        if byte_at(marks, at + i) != 1 {
             return false;
         }
-        i += 1;
-        left -= 1;
     }
     true
 }

@@ -22,11 +22,7 @@ pub fn has_reading(known: u32, values: u32, event: u8, value: u8) -> bool
         return false;
     }
     let bit = event as u32;
-    if (known >> bit) % 2 == 1 {
-        (values >> bit) % 2 == value as u32
-    } else {
-        false
-    }
+    (known >> bit) % 2 == 1 && (values >> bit) % 2 == value as u32
 }
 
 // Waits for the event from a place on: the first row that has the reading releases it. The clocks passed by
@@ -34,15 +30,13 @@ pub fn has_reading(known: u32, values: u32, event: u8, value: u8) -> bool
 pub fn event_wait(log: Log<'_>, at: Place, event: u8, value: u8) -> Released
     ensures { Ewaits (lent_log log.entry) at event value result }
 {
-    let mut row = at.row;
     let mut used = at.used;
     let mut passed: u64 = 0;
-    while row < log.clocks.len() {
+    for row in at.row..log.clocks.len() {
         if has_reading(mask_at(log.known, row), mask_at(log.values, row), event, value) {
             return Released::At(Place { row, used }, passed);
         }
-        passed = std::num::wrapping_add_u64(passed, unused(log.clocks[row], used));
-        row += 1;
+        passed = passed.wrapping_add(unused(log.clocks[row], used));
         used = 0;
     }
     Released::End(passed)

@@ -5,7 +5,6 @@ use mathlib.Core.Path.{◌≡◌, sym, ap, ap₂, ◌∙◌}
 use mathlib.Core.Bool.{Bool}
 use mathlib.Core.List.{List}
 use Rattle.isa.specs.declared.instructions.Instruction.{Instruction}
-use Rattle.isa.specs.Answers.{Decoded}
 use Rattle.refusals.specs.declared.refusals.Unreadable.{Unreadable}
 use Rattle.isa_fetch.specs.Fetch.{fetch_of, past_opcode}
 use Rattle.event_log.specs.Log.{Log}

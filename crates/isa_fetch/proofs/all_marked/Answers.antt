@@ -1,17 +1,25 @@
-use mathlib.Core.Path.{◌≡◌, sym, ◌∙◌}
-use native.Mathlib.Omega.{arith}
-use lib.ListN.{get_or}
-use Rattle.isa_fetch.proofs.Marks.{marked_none, marked_next, marked_not}
+use Rattle.std.proofs.Common.{◌≡◌, ◌+◌, ◌-◌, get_or, sym, ◌∙◌, arith}
+use Rattle.isa_fetch.proofs.Marks.{marked_within, marked_none, marked_next, marked_not}
 use Rattle.isa_fetch.proofs.all_marked.Goals as goal
+
+pub loop-i-preserved : goal.loop-i-preserved
+loop-i-preserved c =
+    let a = c.args in
+    let v = c.loop-i in
+    let marked : get_or a.marks.now (a.at + v.i) 0 ≡ 1 = sym c.byte_at.ensures ∙ c.if-byte_at-ne1.false in
+    let within = marked_within a.marks.now (a.at + v.i) marked in
+    let left : a.n - (v.i + 1) ≡ a.n - v.i - 1 = omega arith in
+    let next : a.at + (v.i + 1) ≡ a.at + v.i + 1 = omega arith in
+    (rw (left, next) (marked_next a.marks.now (a.at + v.i) (a.n - v.i) (omega arith) marked ∙ v.invariant.0), λ _. omega (arith, within))
 
 pub returns-then-byte_at-ne1 : goal.returns-then-byte_at-ne1
 returns-then-byte_at-ne1 c =
-    marked_not _ c.loop-left.i c.loop-left.left (omega arith) (λ e. c.if-byte_at-ne1.true (c.byte_at.ensures ∙ e)) ∙ c.loop-left.invariant
-
-pub loop-left-preserved : goal.loop-left-preserved
-loop-left-preserved c =
-    let marked : get_or c.args.marks.now c.loop-left.i 0 ≡ 1 = sym c.byte_at.ensures ∙ c.if-byte_at-ne1.false in
-    marked_next _ c.loop-left.i c.loop-left.left (omega arith) marked ∙ c.loop-left.invariant
+    let a = c.args in
+    let v = c.loop-i in
+    marked_not a.marks.now (a.at + v.i) (a.n - v.i) (omega arith) (λ e. c.if-byte_at-ne1.true (c.byte_at.ensures ∙ e)) ∙ v.invariant.0
 
 pub returns : goal.returns
-returns c = marked_none _ c.loop-left.i c.loop-left.left (omega arith) ∙ c.loop-left.invariant
+returns c =
+    let a = c.args in
+    let v = c.loop-i in
+    marked_none a.marks.now (a.at + v.i) (a.n - v.i) (omega arith) ∙ v.invariant.0

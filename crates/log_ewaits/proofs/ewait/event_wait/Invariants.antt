@@ -5,9 +5,6 @@ use Rattle.log_ewaits.proofs.ewait.event_wait.Given as goal
 
 abbrev pub invariant-loop-row : goal.invariant-loop-row
 invariant-loop-row l =
-    let log = log_of l.clocks l.known l.values in
+    let log = log_of l.log.clocks.now l.log.known.now l.log.values.now in
     (in64 (passing l.passed (search_from log l.event l.value l.row l.used))
-    ≡ in64 (passing 0 (search_from log l.event l.value l.initial.row l.initial.used))) × (l.passed < 2 ^ 64)
-
-abbrev pub decreases-loop-row : goal.decreases-loop-row
-decreases-loop-row l = length l.clocks - l.row
+    ≡ in64 (passing 0 (search_from log l.event l.value l.fn.at.row l.initial.used))) × (l.passed < 2 ^ 64)

@@ -4,9 +4,9 @@ use lib.Dec.{leb}
 use lib.ListN.{length}
 use borrow.Author.Tests.{eq-eqb, ne_eqb}
 use Rattle.families.specs.Family.{known_family, code_size, highest_entry}
-use Rattle.script.specs.Script.{Script, script_of}
+use Rattle.script.specs.Script.{Script, lent_script}
 use Rattle.script.specs.Input.{marks_plain, script_fits}
-use Rattle.script.proofs.input.script_fits.Goals as goal
+use Rattle.script.proofs.input.Script.fits.Goals as goal
 
 pub returns-then-not-known_family : goal.returns-then-not-known_family
 unfolding script_fits
@@ -15,9 +15,7 @@ returns-then-not-known_family c = simp (sym c.known_family.ensures ∙ c.if-not-
 pub returns-then-code-code_size : goal.returns-then-code-code_size
 unfolding script_fits
 returns-then-code-code_size c =
-    let script : Script =
-    let a = c.args in
-    script_of a.family a.code.now a.marks.now a.entry.0 in
+    let script : Script = lent_script c.args.self in
     let known : known_family script.family ≡ true = sym c.known_family.ensures ∙ c.if-not-known_family.false in
     let other = ne_eqb (length script.code) (code_size script.family) (λ same. c.if-code-code_size.true (same ∙ sym c.code_size.ensures.answered)) in
     simp (known, other)
@@ -25,9 +23,7 @@ returns-then-code-code_size c =
 pub returns-then-marks-code_size : goal.returns-then-marks-code_size
 unfolding script_fits
 returns-then-marks-code_size c =
-    let script : Script =
-    let a = c.args in
-    script_of a.family a.code.now a.marks.now a.entry.0 in
+    let script : Script = lent_script c.args.self in
     let known : known_family script.family ≡ true = sym c.known_family.ensures ∙ c.if-not-known_family.false in
     let x : Script = script in
     let code_sized : length x.code ≡ code_size x.family = c.if-code-code_size.false ∙ c.code_size.ensures.answered in
@@ -38,9 +34,7 @@ returns-then-marks-code_size c =
 pub returns-then-not-marks_plain : goal.returns-then-not-marks_plain
 unfolding script_fits
 returns-then-not-marks_plain c =
-    let script : Script =
-    let a = c.args in
-    script_of a.family a.code.now a.marks.now a.entry.0 in
+    let script : Script = lent_script c.args.self in
     let known : known_family script.family ≡ true = sym c.known_family.ensures ∙ c.if-not-known_family.false in
     let x : Script = script in
     let code_sized : length x.code ≡ code_size x.family = c.if-code-code_size.false ∙ c.code_size.ensures.answered in
@@ -55,9 +49,7 @@ last_decides x k c m p = let size = code_size x.family in simp (k, eq-eqb (lengt
 
 pub returns : goal.returns
 returns c =
-    let script : Script =
-    let a = c.args in
-    script_of a.family a.code.now a.marks.now a.entry.0 in
+    let script : Script = lent_script c.args.self in
     let known : known_family script.family ≡ true = sym c.known_family.ensures ∙ c.if-not-known_family.false in
     let x : Script = script in
     let code_sized : length x.code ≡ code_size x.family = c.if-code-code_size.false ∙ c.code_size.ensures.answered in
