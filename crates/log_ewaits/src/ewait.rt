@@ -35,19 +35,14 @@ pub fn event_wait<'a>(
 ) -> Released
     ensures { Ewaits (log_of clocks.now known.now values.now) at event value result }
 {
-    let mut row = at.row;
     let mut used = at.used;
     let mut passed: u64 = 0;
-    let released = loop {
-        if clocks.len() <= row {
-            break Released::End(passed);
-        }
+    for row in at.row..clocks.len() {
         if has_reading(mask_at(known, row), mask_at(values, row), event, value) {
-            break Released::At(Place { row, used }, passed);
+            return Released::At(Place { row, used }, passed);
         }
-        passed = std::num::wrapping_add_u64(passed, unused(clocks[row], used));
-        row += 1;
+        passed = passed.wrapping_add(unused(clocks[row], used));
         used = 0;
-    };
-    released
+    }
+    Released::End(passed)
 }
