@@ -7,7 +7,7 @@ use Rattle.run.specs.Registers.{Registers}
 use Rattle.run.specs.Replay.{replay_of, Replays}
 use Rattle.run.specs.declared.answers.Ending.{Ending}
 use Rattle.run.specs.declared.answers.Replayed.{Replayed}
-use Rattle.run.specs.declared.answers.ReplayAnswer.{ReplayAnswer}
+use Rattle.run.specs.Replay.{ReplayAnswer}
 use Rattle.capi_replay.specs.declared.replays.ReplayReply.{ReplayReply}
 
 -- endings count from 1, so that zeros name none

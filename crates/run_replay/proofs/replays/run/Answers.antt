@@ -4,7 +4,6 @@ use native.Mathlib.Omega.{arith}
 use borrow.Author.Tests.{le-leb, lt-leb}
 use Rattle.script.proofs.Scripts.{fits_script}
 use Rattle.run.specs.Replay.{run_answer_of}
-use Rattle.run.specs.Replay.{RunAnswer}
 use Rattle.run.proofs.ReplayEnds.{runs_slot}
 use Rattle.run_replay.proofs.replays.run.Goals as goal
 
