@@ -101,9 +101,7 @@ fn effect_numbers(effect: Effect) -> EffectNumbers
 fn step_reply(stepped: Stepped) -> StepReply
     ensures { result ≡ step_reply stepped }
 {
-    let effect = stepped.effect;
-    let told = effect_numbers(effect);
-    let state = state_image(stepped.state);
+    let told = effect_numbers(stepped.effect);
     StepReply {
         refusal: told.refusal,
         effect: told.kind,
@@ -114,6 +112,6 @@ fn step_reply(stepped: Stepped) -> StepReply
         used: stepped.place.used,
         waited: stepped.waited,
         searched: stepped.searched,
-        state,
+        state: state_image(stepped.state),
     }
 }
