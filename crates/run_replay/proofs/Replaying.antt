@@ -140,54 +140,54 @@ pub record Turn (x : Scene) (slot : Slot) (flags : Flags) (lent : List ℕ) (n :
 
 module _ {x : Scene} {slot : Slot} {flags : Flags} {lent : List ℕ} {n : ℕ} {p : Progress} {now : List ℕ} {t : SlotStep}
     (turn : Turn x slot flags lent n p now t) where
-  -- the run so far, and after the step
-  abbrev so_far : SlotRun
-  so_far = run_to x slot flags n
+  -- the run before the step, and after it
+  abbrev run_before : SlotRun
+  run_before = run_to x slot flags n
 
-  abbrev then : SlotRun
-  then = run_to x slot flags (suc n)
+  abbrev run_after : SlotRun
+  run_after = run_to x slot flags (suc n)
 
-  running : is_running so_far.slot.mode ≡ true
+  running : is_running run_before.slot.mode ≡ true
   running = rw turn.is at turn.runs_on
 
-  taken_is : t ≡ slot_step_from x so_far
+  taken_is : t ≡ slot_step_from x run_before
   taken_is = turn.taken ∙ ap (slot_step_on x) turn.is
 
   -- a step that fetched nothing was stopped, and so is every later one
-  pub run_stopped : fetched_by t.effect ≡ 0 → so_far ≡ full_slot_run x slot flags
+  pub run_stopped : fetched_by t.effect ≡ 0 → run_before ≡ full_slot_run x slot flags
   run_stopped none =
-      let next : next_slot_step x so_far ≡ t =
-      (let e : next_slot_step x so_far ≡ slot_step_from x so_far = rw running refl in e) ∙ sym taken_is in
+      let next : next_slot_step x run_before ≡ t =
+      (let e : next_slot_step x run_before ≡ slot_step_from x run_before = rw running refl in e) ∙ sym taken_is in
       run_settled x slot flags n (ap (λ (u : SlotStep). fetched_by u.effect) next ∙ none) (omega (arith, turn.more))
 
-  pub progress_after_lem : progress_after p t ≡ progress_of then
+  pub progress_after_lem : progress_after p t ≡ progress_of run_after
   progress_after_lem =
-      rw (taken_is, turn.is) (sym (progress_took so_far (slot_step_from x so_far)) ∙ sym (ap progress_of (run_next x slot flags n running)))
+      rw (taken_is, turn.is) (sym (progress_took run_before (slot_step_from x run_before)) ∙ sym (ap progress_of (run_next x slot flags n running)))
 
-  writes_counted : p.writes ≡ length so_far.writes
+  writes_counted : p.writes ≡ length run_before.writes
   writes_counted = ap (λ (q : Progress). q.writes) turn.is
 
-  writes_are : then.writes ≡ so_far.writes ++ wrote_by t.effect
+  writes_are : run_after.writes ≡ run_before.writes ++ wrote_by t.effect
   writes_are =
       ap (λ (r : SlotRun). r.writes) (run_next x slot flags n running)
-      ∙ ap (λ (u : SlotStep). so_far.writes ++ wrote_by u.effect) (sym taken_is)
+      ∙ ap (λ (u : SlotStep). run_before.writes ++ wrote_by u.effect) (sym taken_is)
 
-  room_now : 2 * length so_far.writes ≤ 340
-  room_now = writes_small x slot flags turn.low turn.valid n
+  room_before : 2 * length run_before.writes ≤ 340
+  room_before = writes_small x slot flags turn.low turn.valid n
 
-  room_then : 2 * length (so_far.writes ++ wrote_by t.effect) ≤ 340
-  room_then = omega (arith, writes_small x slot flags turn.low turn.valid (suc n), ap length writes_are)
+  room_after : 2 * length (run_before.writes ++ wrote_by t.effect) ≤ 340
+  room_after = omega (arith, writes_small x slot flags turn.low turn.valid (suc n), ap length writes_are)
 
   sized : length now ≡ length lent
-  sized = ap length turn.held ∙ written_length lent so_far.writes (omega (arith, room_now, turn.enough))
+  sized = ap length turn.held ∙ written_length lent run_before.writes (omega (arith, room_before, turn.enough))
 
   pub store_room : 2 * p.writes + 2 * length (wrote_by t.effect) ≤ length now
-  store_room = omega (arith, writes_counted, sized, room_then, length-append so_far.writes (wrote_by t.effect), turn.enough)
+  store_room = omega (arith, writes_counted, sized, room_after, length-append run_before.writes (wrote_by t.effect), turn.enough)
 
-  pub store_is : sets now (2 * p.writes) (entries_of (wrote_by t.effect)) ≡ written_into lent then.writes
+  pub store_is : sets now (2 * p.writes) (entries_of (wrote_by t.effect)) ≡ written_into lent run_after.writes
   store_is =
       rw (turn.held, writes_counted)
-      (written_more lent so_far.writes (wrote_by t.effect) (omega (arith, room_then, turn.enough))
+      (written_more lent run_before.writes (wrote_by t.effect) (omega (arith, room_after, turn.enough))
       ∙ ap (written_into lent) (sym writes_are))
 
   pub slot_step_fits : (p.steps < 1024) × (p.writes < 1024) × (p.waited + t.waited < 2 ^ 64) × (p.searched + t.searched < 2 ^ 64)
@@ -195,7 +195,7 @@ module _ {x : Scene} {slot : Slot} {flags : Flags} {lent : List ℕ} {n : ℕ} {
       let next = sums_small x slot flags turn.low turn.valid (suc n) in
       let few : n ≤ 512 = omega (arith, turn.more, size_small x.family) in (
         omega (arith, ap (λ (q : Progress). q.steps) turn.is, steps_small x slot flags turn.low turn.valid n (omega (arith, few))),
-        omega (arith, writes_counted, room_now),
+        omega (arith, writes_counted, room_before),
         omega (arith, ap (λ (q : Progress). q.waited) progress_after_lem, next.0),
         omega (arith, ap (λ (q : Progress). q.searched) progress_after_lem, next.1),
       )
