@@ -18,10 +18,10 @@ fn target_of(part: Part, word: u32, known: Option<MmioAddress>) -> Option<MmioAd
 {
     match part {
         Part::Whole => Some(MmioAddress(word)),
-        Part::Low => match known {
-            None => None,
-            Some(address) => Some(MmioAddress(machine_actions::merge(part, address.0, word))),
-        },
+        Part::Low => {
+            let address = known?;
+            Some(MmioAddress(machine_actions::merge(part, address.0, word)))
+        }
     }
 }
 
@@ -61,12 +61,8 @@ fn judge_ewait(event: u8, value: u8) -> Judgement
 fn judge_exit(family: u8, paused: bool) -> Judgement
     ensures { result ≡ cond (pauses_memory family && paused) (Judgement.Bad Fault.Paused) Judgement.Exit }
 {
-    if families::pauses_memory(family) {
-        if paused {
-            Judgement::Bad(Fault::Paused)
-        } else {
-            Judgement::Exit
-        }
+    if families::pauses_memory(family) && paused {
+        Judgement::Bad(Fault::Paused)
     } else {
         Judgement::Exit
     }
@@ -75,35 +71,27 @@ fn judge_exit(family: u8, paused: bool) -> Judgement
 pub fn judge(family: u8, ranges: &[u32], action: Action, known: Knowledge) -> Judgement
     ensures { result ≡ judge_of family ranges.now action known }
 {
-    let addr = known.addr;
     match action {
-        Action::Wait(_) => Judgement::Fine,
         Action::Ewait(event, value) => judge_ewait(event, value),
-        Action::Flag(_, _) => Judgement::Fine,
-        Action::Load(_, _) => Judgement::Fine,
-        Action::Poke(part, word) => judge_poke(ranges, target_of(part, word, addr), known.data),
+        Action::Poke(part, word) => {
+            judge_poke(ranges, target_of(part, word, known.addr), known.data)
+        }
         Action::Exit => judge_exit(family, known.paused),
+        _ => Judgement::Fine,
     }
 }
 
 fn loads_both(part: Part, halves: bool) -> bool
     ensures { result ≡ loads_both part halves }
 {
-    match part {
-        Part::Whole => true,
-        Part::Low => halves,
-    }
+    matches!(part, Part::Whole) || halves
 }
 
 fn touch(change: Change, flag: u8, paused: bool) -> bool
     ensures { result ≡ cond (eqb flag fb_pause) (is_set1 change) paused }
 {
     if flag == machine_flags::FB_PAUSE {
-        match change {
-            Change::Unset => false,
-            Change::Set1 => true,
-            Change::Set0 => false,
-        }
+        matches!(change, Change::Set1)
     } else {
         paused
     }
@@ -113,12 +101,8 @@ fn known_addr(action: Action, addr: Option<MmioAddress>) -> Option<MmioAddress>
     ensures { result ≡ known_addr action addr }
 {
     match action {
-        Action::Wait(_) => addr,
-        Action::Ewait(_, _) => addr,
-        Action::Flag(_, _) => addr,
-        Action::Load(_, _) => addr,
         Action::Poke(part, word) => target_of(part, word, addr),
-        Action::Exit => addr,
+        _ => addr,
     }
 }
 
@@ -126,12 +110,8 @@ fn known_data(action: Action, halves: bool) -> bool
     ensures { result ≡ known_data action halves }
 {
     match action {
-        Action::Wait(_) => halves,
-        Action::Ewait(_, _) => halves,
-        Action::Flag(_, _) => halves,
         Action::Load(part, _) => loads_both(part, halves),
-        Action::Poke(_, _) => halves,
-        Action::Exit => halves,
+        _ => halves,
     }
 }
 
@@ -139,12 +119,8 @@ fn known_paused(action: Action, paused: bool) -> bool
     ensures { result ≡ known_paused action paused }
 {
     match action {
-        Action::Wait(_) => paused,
-        Action::Ewait(_, _) => paused,
         Action::Flag(change, flag) => touch(change, flag, paused),
-        Action::Load(_, _) => paused,
-        Action::Poke(_, _) => paused,
-        Action::Exit => paused,
+        _ => paused,
     }
 }
 
@@ -152,12 +128,8 @@ fn poke_count(action: Action) -> usize
     ensures { result ≡ poke_count action }
 {
     match action {
-        Action::Wait(_) => 0,
-        Action::Ewait(_, _) => 0,
-        Action::Flag(_, _) => 0,
-        Action::Load(_, _) => 0,
         Action::Poke(_, _) => 1,
-        Action::Exit => 0,
+        _ => 0,
     }
 }
 
@@ -166,11 +138,7 @@ fn wait_length(action: Action) -> u64
 {
     match action {
         Action::Wait(n) => n,
-        Action::Ewait(_, _) => 0,
-        Action::Flag(_, _) => 0,
-        Action::Load(_, _) => 0,
-        Action::Poke(_, _) => 0,
-        Action::Exit => 0,
+        _ => 0,
     }
 }
 
@@ -192,14 +160,10 @@ pub(crate) fn know_next(action: Action, known: Knowledge) -> Knowledge
     requires { (known.count < 1024) × (known.writes < 1024) × (known.clocks + wait_length action < 2 ^ 64) }
     ensures { result ≡ know_next action known }
 {
-    let before = known.addr;
-    let addr = known_addr(action, before);
-    let data = known_data(action, known.data);
-    let paused = known_paused(action, known.paused);
     Knowledge {
-        addr,
-        data,
-        paused,
+        addr: known_addr(action, known.addr),
+        data: known_data(action, known.data),
+        paused: known_paused(action, known.paused),
         count: known.count + 1,
         writes: known.writes + poke_count(action),
         clocks: known.clocks + wait_length(action),

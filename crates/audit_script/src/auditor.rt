@@ -16,10 +16,7 @@ use script::{Script, ranges_fit};
 pub fn audit(script: Script<'_>, ranges: &[u32]) -> Verdict
     ensures { Audits (lent_script script.entry) ranges.now result }
 {
-    if !script.fits() {
-        return Verdict::Fault(Fault::Input, CodeAddress(0));
-    }
-    if !ranges_fit(ranges) {
+    if !script.fits() || !ranges_fit(ranges) {
         return Verdict::Fault(Fault::Input, CodeAddress(0));
     }
     walk(script, ranges)
@@ -46,11 +43,11 @@ fn walk(script: Script<'_>, ranges: &[u32]) -> Verdict
 {
     let mut at = script.entry.0;
     let mut known = know_nothing();
-    let verdict = loop {
+    loop {
         let place = CodeAddress(at);
-        let found = script.ram.fetch(place);
-        let Ok((instruction, length)) = found else {
-            break Verdict::Fault(fault_of(isa_fetch::reason_of(found)), place);
+        let (instruction, length) = match script.ram.fetch(place) {
+            Ok(found) => found,
+            Err(why) => return Verdict::Fault(fault_of(why), place),
         };
         let action = machine_actions::action_of(instruction);
         match judge(script.ram.family, ranges, action, known) {
@@ -59,17 +56,14 @@ fn walk(script: Script<'_>, ranges: &[u32]) -> Verdict
                 at += length;
             }
             Judgement::Exit => {
-                break Verdict::Pass {
+                return Verdict::Pass {
                     place,
                     count: known.count + 1,
                     writes: known.writes,
                     clocks: known.clocks,
                 };
             }
-            Judgement::Bad(fault) => {
-                break Verdict::Fault(fault, place);
-            }
+            Judgement::Bad(fault) => return Verdict::Fault(fault, place),
         }
-    };
-    verdict
+    }
 }

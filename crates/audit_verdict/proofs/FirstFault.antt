@@ -1,5 +1,5 @@
 -- The verdict's number is that of the first of 01's tests which fails, on the way from the entry to the first exit. Assumes nothing.
-use Rattle.std.specs.Prelude.{Ok, Err, Some, None}
+use Rattle.std.specs.Prelude.{Ok, Err, Some, None, Option}
 use Prim.Native.Nat.{ℕ, zero, suc, ◌+◌}
 use mathlib.Core.Path.{◌≡◌, refl, sym, ap, ◌∙◌}
 use mathlib.Core.Bool.{Bool, true, false, cond, not, ◌&&◌, ◌||◌}
@@ -28,14 +28,14 @@ use Rattle.audit_verdict.specs.Auditor.{verdict_in, walk_of, audit_of}
 use Rattle.audit_verdict.specs.Numbers.{is_low, is_addr, is_data, is_exit, some_is, addr_held, left_paused, action_tests, found_tests, number_in}
 use Rattle.audit_verdict.specs.Numbers.{audit_number}
 use Rattle.audit_verdict.specs.declared.verdicts.Judgement.{Judgement}
-use Rattle.audit_verdict.specs.declared.verdicts.KnownAddress.{KnownAddress}
+use Rattle.isa.specs.declared.addresses.MmioAddress.{MmioAddress}
 use Rattle.audit_verdict.specs.declared.verdicts.Knowledge.{Knowledge}
 use Rattle.audit_verdict.specs.declared.verdicts.Verdict.{Verdict}
 use Rattle.audit_verdict.proofs.Cases.{never}
 
 -- ---- what the auditor keeps of the actions before a place
 
-abbrev known_held : List Action → KnownAddress
+abbrev known_held : List Action → Option MmioAddress
 known_held before = cond (some_is is_addr before) (Some (record { 0 = addr_held before })) None
 
 record Noted (k : Knowledge) (before : List Action) : Type 0 where
@@ -119,7 +119,7 @@ module _ (family : ℕ) (ranges : List ℕ) where
   Walks action Judgement.Exit = is_exit action ≡ true
   Walks action (Judgement.Bad fault) = Unit {0}
 
-  poke_walks : (part : Part) (word : ℕ) (target : KnownAddress) (halves : Bool) → Walks (Action.Poke part word) (judge_poke ranges target halves)
+  poke_walks : (part : Part) (word : ℕ) (target : Option MmioAddress) (halves : Bool) → Walks (Action.Poke part word) (judge_poke ranges target halves)
   poke_walks part word None halves = tt
   poke_walks part word (Some address) halves =
       cond_elim (Walks (Action.Poke part word)) halves

@@ -1,5 +1,5 @@
 -- What each judgement of the auditor says of the action it judges: the one case split over actions that looks at `judge_of`. Assumes nothing.
-use Rattle.std.specs.Prelude.{Some, None}
+use Rattle.std.specs.Prelude.{Some, None, Option}
 use Prim.Native.Nat.{ℕ}
 use mathlib.Core.Path.{◌≡◌, refl, sym, ap, ◌∙◌}
 use mathlib.Core.Bool.{Bool, true, false, ◌&&◌}
@@ -18,12 +18,11 @@ use Rattle.script.specs.Input.{listed_in}
 use Rattle.run.specs.Run.{wrote_by}
 use Rattle.refusals.specs.declared.refusals.Fault.{Fault}
 use Rattle.audit_verdict.specs.declared.verdicts.Judgement.{Judgement}
-use Rattle.audit_verdict.specs.declared.verdicts.KnownAddress.{KnownAddress}
 use Rattle.audit_verdict.specs.declared.verdicts.Knowledge.{Knowledge}
 use Rattle.audit_verdict.proofs.Cases.{never}
 
 -- what ADDR holds: what the script has set, or else what the start had
-abbrev pub held_addr : KnownAddress → ℕ → ℕ
+abbrev pub held_addr : Option MmioAddress → ℕ → ℕ
 held_addr None start = start
 held_addr (Some address) start = address.0
 
@@ -32,11 +31,11 @@ nowhere : {A : Type 0} {address : MmioAddress} → None ≡ Some address → A
 nowhere e = never (cc)
 
 -- a poke goes where the auditor says
-pub poke_addr : (part : Part) (word start addr : ℕ) (address : MmioAddress) (known : KnownAddress)
+pub poke_addr : (part : Part) (word start addr : ℕ) (address : MmioAddress) (known : Option MmioAddress)
     → target_of part word known ≡ Some address → addr ≡ held_addr known start → merge_of part addr word ≡ address.0
-poke_addr Part.Whole word start addr address known t e = ap (λ (k : KnownAddress). held_addr k 0) t
+poke_addr Part.Whole word start addr address known t e = ap (λ (k : Option MmioAddress). held_addr k 0) t
 poke_addr Part.Low word start addr address None t e = nowhere t
-poke_addr Part.Low word start addr address (Some a) t e = rw e (ap (λ (k : KnownAddress). held_addr k 0) t)
+poke_addr Part.Low word start addr address (Some a) t e = rw e (ap (λ (k : Option MmioAddress). held_addr k 0) t)
 
 module _ (family : ℕ) (ranges : List ℕ) where
   -- the run goes on, as the auditor has it, and writes only where it may, and the same whatever ADDR and DATA held at the start
@@ -92,12 +91,12 @@ module _ (family : ℕ) (ranges : List ℕ) where
   exits_paused : (k : Knowledge) → (pauses_memory family && k.paused) ≡ true → Blame Action.Exit k Fault.Paused
   exits_paused k e = (refl, e)
 
-  why_poke : (part : Part) (word : ℕ) (k : Knowledge) (target : KnownAddress) → target_of part word k.addr ≡ target
+  why_poke : (part : Part) (word : ℕ) (k : Knowledge) (target : Option MmioAddress) → target_of part word k.addr ≡ target
       → (halves : Bool) → k.«data» ≡ halves → Why (Action.Poke part word) k (judge_poke ranges target halves)
   why_poke Part.Whole word k None t halves d = never (cc)
   why_poke Part.Low word k None t halves d = no_address word k (unset k.addr t)
     where
-      unset : (known : KnownAddress) → target_of Part.Low word known ≡ None → known ≡ None
+      unset : (known : Option MmioAddress) → target_of Part.Low word known ≡ None → known ≡ None
       unset None t = refl
       unset (Some address) t = never (cc)
   why_poke part word k (Some address) t true d =
@@ -105,7 +104,7 @@ module _ (family : ℕ) (ranges : List ℕ) where
       (λ l. record {
         goes = refl;
         moves = λ at next. refl;
-        addr = λ start addr e. poke_addr part word start addr address k.addr t e ∙ ap (λ (known : KnownAddress). held_addr known start) (sym t);
+        addr = λ start addr e. poke_addr part word start addr address k.addr t e ∙ ap (λ (known : Option MmioAddress). held_addr known start) (sym t);
         listed = λ start addr data' e. (rw (poke_addr part word start addr address k.addr t e) l, tt);
         event = λ event value q. never (cc);
         writes = λ start start' addr addr' data' data'' e e' same.

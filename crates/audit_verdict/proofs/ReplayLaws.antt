@@ -14,7 +14,6 @@ use Rattle.run.specs.Registers.{registers_in, slot_given, flags_given}
 use Rattle.run.specs.Replay.{max_entries, told_of, progress_of, full_slot_run, run_answer_of}
 use Rattle.run.proofs.InState.{run_back, full_follows}
 use Rattle.audit_verdict.specs.Demand3.{ReplayTellsAll}
-use Rattle.run.specs.declared.answers.ReplayAnswer.{ReplayAnswer}
 use Rattle.script.specs.Script.{Script}
 use Rattle.script.proofs.Scripts.{fits_script}
 use Rattle.audit_verdict.proofs.Going.{scene_under}

@@ -1,5 +1,5 @@
 -- The log made for the auditor's walk shows the verdict, from every start. Assumes nothing.
-use Rattle.std.specs.Prelude.{Err, Some, None}
+use Rattle.std.specs.Prelude.{Err, Some, None, Option}
 use Prim.Native.Nat.{ℕ, suc, ◌+◌, ◌/◌, ◌<◌}
 use mathlib.Core.Path.{◌≡◌, refl, sym, ap, subst, ◌∙◌}
 use mathlib.Core.Logic.{inl, inr}
@@ -11,7 +11,6 @@ use lib.ListN.{length, length-map}
 use borrow.Author.Tests.{lt-ltb}
 use Rattle.families.specs.Family.{known_family, pauses_memory}
 use Rattle.isa.specs.declared.addresses.MmioAddress.{MmioAddress}
-use Rattle.isa.specs.Answers.{Decoded}
 use Rattle.refusals.specs.declared.refusals.Fault.{Fault}
 use Rattle.refusals.specs.declared.refusals.Unreadable.{Unreadable}
 use Rattle.isa_fetch.proofs.Places.{fetch_lies}
@@ -43,7 +42,6 @@ use Rattle.audit_verdict.specs.Auditor.{fault_of, target_of, can_release, know_n
 use Rattle.audit_verdict.specs.Demand3.{AtPlace, Exact, Witness, WriteDifferently, OneAddress, NoneBefore, with_addr, with_data}
 use Rattle.audit_verdict.specs.Start.{Start}
 use Rattle.audit_verdict.specs.Witness.{writes_over, witness_from, place_of, Differ, Sees, ShowsVerdict, ShownFrom, ShownBy}
-use Rattle.audit_verdict.specs.declared.verdicts.KnownAddress.{KnownAddress}
 use Rattle.audit_verdict.specs.declared.verdicts.Knowledge.{Knowledge}
 use Rattle.audit_verdict.specs.declared.verdicts.Verdict.{Verdict}
 use Rattle.audit_verdict.proofs.Cases.{never}
@@ -161,7 +159,7 @@ module _ {x : Script} {ranges : List ℕ} (fit : Auditable x) {q : ℕ} {k : Kno
     own_addr : {m : ℕ} (operand : ℕ) → Reads x q (Action.Poke Part.Low operand) m → k.addr ≡ None
         → (address : ℕ) × (word : ℕ) × (effect ≡ Effect.Wrote (record { 0 = address }) word) × (address / 65536 ≡ (slot_of s name).addr.0 / 65536)
     own_addr operand e unset =
-        let held = agrees.held ∙ ap (λ (known : KnownAddress). held_addr known (slot_of s name).addr.0) unset in
+        let held = agrees.held ∙ ap (λ (known : Option MmioAddress). held_addr known (slot_of s name).addr.0) unset in
         (_, _, pokes Part.Low operand e, merge_high run_of_slot.slot.addr.0 operand ∙ ap (λ (a : ℕ). a / 65536) held)
 
     own_data : {m : ℕ} (part : Part) (operand : ℕ) → Reads x q (Action.Poke part operand) m → k.«data» ≡ false

@@ -1,8 +1,7 @@
 -- What the auditor says (01, "What the auditor says").
-use Rattle.std.specs.Prelude.{ℕ, zero, suc, ◌+◌, ◌≡◌, Bool, true, false, cond, ◌&&◌, List, ltb, eqb, Ok, Err, Some, None}
+use Rattle.std.specs.Prelude.{ℕ, zero, suc, ◌+◌, ◌≡◌, Bool, true, false, cond, ◌&&◌, List, ltb, eqb, Ok, Err, Some, None, Option}
 use Rattle.refusals.specs.Number.{fault_number}
 use Rattle.families.specs.Family.{code_size, pauses_memory}
-use Rattle.isa.specs.Answers.{Decoded}
 use Rattle.refusals.specs.declared.refusals.Unreadable.{Unreadable}
 use Rattle.machine_actions.specs.Action.{action_of, merge_of}
 use Rattle.machine_actions.specs.declared.actions.Action.{Action}
@@ -13,7 +12,7 @@ use Rattle.script.specs.Script.{Script, fetch_at}
 use Rattle.script.specs.Input.{listed_in, input_fits}
 use Rattle.refusals.specs.declared.refusals.Fault.{Fault}
 use Rattle.audit_verdict.specs.declared.verdicts.Judgement.{Judgement}
-use Rattle.audit_verdict.specs.declared.verdicts.KnownAddress.{KnownAddress}
+use Rattle.isa.specs.declared.addresses.MmioAddress.{MmioAddress}
 use Rattle.audit_verdict.specs.declared.verdicts.Knowledge.{Knowledge}
 use Rattle.audit_verdict.specs.declared.verdicts.Verdict.{Verdict}
 
@@ -31,13 +30,13 @@ fault_of Unreadable.Short = Fault.PastRam
 fault_of Unreadable.NotUploaded = Fault.NotUploaded
 
 -- where a poke goes, as far as this script has said: an addrlo with no addr before it goes nowhere known
-abbrev pub target_of : Part → ℕ → KnownAddress → KnownAddress
+abbrev pub target_of : Part → ℕ → Option MmioAddress → Option MmioAddress
 target_of Part.Whole word known = Some (record { 0 = word })
 target_of Part.Low word None = None
 target_of Part.Low word (Some address) = Some (record { 0 = merge_of Part.Low address.0 word })
 
 -- a poke: 4, 5, 6 in this order
-abbrev pub judge_poke : List ℕ → KnownAddress → Bool → Judgement
+abbrev pub judge_poke : List ℕ → Option MmioAddress → Bool → Judgement
 judge_poke ranges None halves = Judgement.Bad Fault.NoAddress
 judge_poke ranges (Some address) halves =
     cond halves (cond (listed_in ranges address.0) Judgement.Fine (Judgement.Bad Fault.Outside)) (Judgement.Bad Fault.HalfData)
@@ -61,7 +60,7 @@ judge_of family ranges Action.Exit k = cond (pauses_memory family && k.paused) (
 
 -- ---- what is known after an instruction
 
-abbrev pub known_addr : Action → KnownAddress → KnownAddress
+abbrev pub known_addr : Action → Option MmioAddress → Option MmioAddress
 known_addr (Action.Wait n) known = known
 known_addr (Action.Ewait event value) known = known
 known_addr (Action.Flag change flag) known = known

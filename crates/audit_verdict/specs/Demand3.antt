@@ -22,7 +22,6 @@ use Rattle.audit_verdict.specs.Start.{Start, MasksInType}
 use Rattle.refusals.specs.declared.refusals.Fault.{Fault}
 use Rattle.audit_verdict.specs.declared.verdicts.Verdict.{Verdict}
 use Rattle.run.specs.declared.answers.Ending.{Ending}
-use Rattle.run.specs.declared.answers.ReplayAnswer.{ReplayAnswer}
 
 -- every address written is listed
 abbrev pub AllListed : List ℕ → List Write → Type 0

@@ -5,9 +5,8 @@ use Rattle.event_log.specs.Log.{log_of}
 use Rattle.refusals.specs.Number.{fault_number}
 use Rattle.script.specs.Script.{Script, script_of}
 use Rattle.run.specs.Registers.{registers_of}
-use Rattle.run.specs.Replay.{max_entries, replay_of}
+use Rattle.run.specs.Replay.{ReplayAnswer, max_entries, replay_of}
 use Rattle.run.specs.declared.answers.Ending.{Ending}
-use Rattle.run.specs.declared.answers.ReplayAnswer.{ReplayAnswer}
 use Rattle.audit_verdict.specs.Auditor.{audit_of}
 use Rattle.audit_verdict.specs.declared.verdicts.Verdict.{Verdict}
 

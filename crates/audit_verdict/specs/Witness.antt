@@ -1,7 +1,6 @@
 -- The log that shows a verdict, and what it shows from every start. 01 asks that some log be there; this one is our choice (docs/LIBRARY.md).
 use Rattle.std.specs.Prelude.{ℕ, zero, suc, ◌+◌, ◌*◌, ◌/◌, ◌^◌, ◌≤◌, ◌≡◌, ◌⊎◌, Bool, true, false, cond, List, [], ◌∷◌, ◌++◌, eqb, length, Ok, Err}
 use Rattle.families.specs.Family.{code_size}
-use Rattle.isa.specs.Answers.{Decoded}
 use Rattle.refusals.specs.Number.{fault_number}
 use Rattle.refusals.specs.declared.refusals.Fault.{Fault}
 use Rattle.refusals.specs.declared.refusals.Unreadable.{Unreadable}

@@ -26,7 +26,6 @@ use Rattle.audit_script.specs.Promises.{Audits}
 use Rattle.audit_witness.specs.Inside.{Follows}
 use Rattle.audit_witness.specs.Witnesses.{lent_enough, way, rows, witness_of, witness_refusal, Witnesses}
 use Rattle.audit_witness.specs.declared.rows.Timeline.{Timeline}
-use Rattle.audit_witness.specs.declared.showing.WitnessAnswer.{WitnessAnswer}
 
 -- ---- room in the columns
 

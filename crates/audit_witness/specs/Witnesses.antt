@@ -1,5 +1,5 @@
 -- What `witness` answers, what it leaves in the lent columns, and what these show.
-use Rattle.std.specs.Prelude.{ℕ, ◌≡◌, Bool, cond, not, ◌&&◌, List, leb, length, Ok, Err}
+use Rattle.std.specs.Prelude.{ℕ, ◌≡◌, Bool, cond, not, ◌&&◌, List, leb, length, Result, Ok, Err}
 use Rattle.refusals.specs.Number.{unshowable_number}
 use Rattle.refusals.specs.declared.refusals.Unshowable.{Unshowable}
 use Rattle.event_log.specs.Log.{Log}
@@ -12,11 +12,15 @@ use Rattle.audit_verdict.specs.Auditor.{audit_of}
 use Rattle.audit_verdict.specs.Witness.{first_row, rows_over, writes_over, max_shown, way_to, ShownBy}
 use Rattle.audit_verdict.specs.WorkedLogs.{WorkedLogs}
 use Rattle.audit_script.specs.Promises.{Audits}
-use Rattle.audit_witness.specs.declared.showing.WitnessAnswer.{WitnessAnswer}
+use Rattle.audit_witness.specs.declared.showing.Shown.{Shown}
 
 -- 171 entries in each column
 abbrev pub lent_enough : Log → Bool
 lent_enough lent = leb max_shown (length lent.clocks) && (leb max_shown (length lent.known) && leb max_shown (length lent.values))
+
+-- the verdict with the numbers of its log, or why there is none
+abbrev pub WitnessAnswer : Type 0
+WitnessAnswer = Result Shown Unshowable
 
 -- the number that an answer stands for, 0 where a log was made
 abbrev pub witness_number : WitnessAnswer → ℕ

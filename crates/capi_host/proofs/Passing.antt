@@ -1,11 +1,12 @@
 -- From what the host's calls promise of their answers to what the calls with C names promise of their replies. Assumes nothing.
 use Prim.Native.Nat.{ℕ}
 use mathlib.Core.Path.{◌≡◌, ap, subst, ◌∙◌}
+use Rattle.std.specs.Prelude.{Result}
+use Rattle.refusals.specs.declared.refusals.Inaccessible.{Inaccessible}
 use Rattle.isa.specs.declared.addresses.MmioAddress.{MmioAddress}
 use Rattle.machine_state.specs.declared.state.State.{State}
 use Rattle.host_registers.specs.Promises.{Begins, HostWrites, HostReads}
 use Rattle.host_registers.specs.declared.access.Access.{Access}
-use Rattle.host_registers.specs.declared.access.ReadAnswer.{ReadAnswer}
 use Rattle.capi_state.specs.Images.{image_state}
 use Rattle.capi_state.specs.declared.images.StateImage.{StateImage}
 use Rattle.capi_state.proofs.Back.{image_back}
@@ -36,7 +37,7 @@ module _ {image : StateImage} {s : State} (e : s ≡ image_state image) where
         handed_on = state_back answer told ∙ ap (λ (a : Access). a.state) q.answered;
       }
 
-  pub read_passed : {address : ℕ} {answer : ReadAnswer} {reply : ReadReply}
+  pub read_passed : {address : ℕ} {answer : Result ℕ Inaccessible} {reply : ReadReply}
       → HostReads s (record { 0 = address }) answer → reply ≡ read_reply answer → HwsqRead image address reply
   read_passed {address} {answer} p told =
       let at : MmioAddress = record { 0 = address } in

@@ -1,10 +1,10 @@
 -- A fresh state, and the host's writes and reads, as numbers.
-use Rattle.std.specs.Prelude.{ℕ, ◌≡◌}
+use Rattle.std.specs.Prelude.{ℕ, ◌≡◌, Result, Ok, Err}
 use Rattle.refusals.specs.Number.{inaccessible_number}
+use Rattle.refusals.specs.declared.refusals.Inaccessible.{Inaccessible}
 use Rattle.host_registers.specs.Access.{fresh_of, write_of, read_of}
 use Rattle.host_registers.specs.Promises.{outcome_number, Begins, HostWrites, HostReads}
 use Rattle.host_registers.specs.declared.access.Access.{Access}
-use Rattle.host_registers.specs.declared.access.ReadAnswer.{ReadAnswer}
 use Rattle.capi_state.specs.Images.{image_state, state_image}
 use Rattle.capi_host.specs.declared.accesses.AccessReply.{AccessReply}
 use Rattle.capi_host.specs.declared.accesses.ReadReply.{ReadReply}
@@ -13,9 +13,9 @@ use Rattle.capi_state.specs.declared.images.StateImage.{StateImage}
 abbrev pub access_reply : Access → AccessReply
 access_reply access = record { refusal = outcome_number access.outcome; state = state_image access.state }
 
-abbrev pub read_reply : ReadAnswer → ReadReply
-read_reply (ReadAnswer.Word word) = record { refusal = 0; word = word }
-read_reply (ReadAnswer.Refused why) = record { refusal = inaccessible_number why; word = 0 }
+abbrev pub read_reply : Result ℕ Inaccessible → ReadReply
+read_reply (Ok word) = record { refusal = 0; word = word }
+read_reply (Err why) = record { refusal = inaccessible_number why; word = 0 }
 
 -- each reply tells the host's answer, of which all holds that the host's call promises; its state stands for the host's
 -- when it is handed in again

@@ -3,8 +3,9 @@ ghost use Rattle.std.specs.Prelude.{◌≡◌};
 ghost use Rattle.capi_host.specs.Accesses.{access_reply, read_reply, HwsqFresh, HwsqWrite, HwsqRead};
 
 use capi_state::{StateImage, state_image, state_of_image};
-use host_registers::{Access, Outcome, ReadAnswer};
+use host_registers::Access;
 use isa::MmioAddress;
+use refusals::Inaccessible;
 
 #[repr(C)]
 #[derive(Clone, Copy)]
@@ -46,12 +47,12 @@ pub extern "C" fn hwsq_read(state: StateImage, address: u32) -> ReadReply
     read_reply(host_access::read_register(state_of_image(state), MmioAddress(address)))
 }
 
-fn read_reply(reading: ReadAnswer) -> ReadReply
+fn read_reply(reading: Result<u32, Inaccessible>) -> ReadReply
     ensures { result ≡ read_reply reading }
 {
     match reading {
-        ReadAnswer::Word(word) => ReadReply { refusal: 0, word },
-        ReadAnswer::Refused(why) => ReadReply {
+        Ok(word) => ReadReply { refusal: 0, word },
+        Err(why) => ReadReply {
             refusal: u8::from(why),
             word: 0,
         },
@@ -61,11 +62,10 @@ fn read_reply(reading: ReadAnswer) -> ReadReply
 fn access_reply(access: Access) -> AccessReply
     ensures { result ≡ access_reply access }
 {
-    let outcome = access.outcome;
     let state = state_image(access.state);
-    match outcome {
-        Outcome::Done => AccessReply { refusal: 0, state },
-        Outcome::Refused(why) => AccessReply {
+    match access.outcome {
+        Ok(()) => AccessReply { refusal: 0, state },
+        Err(why) => AccessReply {
             refusal: u8::from(why),
             state,
         },

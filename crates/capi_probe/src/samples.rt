@@ -1,8 +1,9 @@
 // Probe gates, with floats as bit patterns.
 ghost use Rattle.std.specs.Prelude.{◌≡◌};
-ghost use Rattle.capi_probe.specs.Samples.{gate_of, unsampled_reply, reading_code, sampled_reply, HwsqSample};
+ghost use Rattle.capi_probe.specs.Samples.{unsampled_reply, reading_code, sampled_reply, HwsqSample};
 
-use probe_gates::{Calibration, Gate, Reading, Sampled};
+use probe_floats::{NAN_PATTERN, float_of, pattern_of};
+use probe_gates::{Calibration, Gate, Reading, Unusable, sample};
 
 #[repr(C)]
 #[derive(Clone, Copy)]
@@ -17,8 +18,6 @@ pub struct SampleReply {
 
 // The number of a dead gate, the last one.
 const DEAD: u8 = 2;
-// What a refused sample has for volts: 0 would be a voltage.
-const NAN_PATTERN: u32 = 0x7fc0_0000;
 
 // What a probe's raw pattern says through its gate.
 #[unsafe(no_mangle)]
@@ -36,25 +35,13 @@ pub extern "C" fn hwsq_sample(
         return unsampled();
     }
     let calibration = Calibration {
-        gain: probe_floats::float_of(gain),
-        offset: probe_floats::float_of(offset),
+        gain: float_of(gain),
+        offset: float_of(offset),
     };
-    let volts = calibration.volts(probe_floats::float_of(raw));
-    let sampled = probe_gates::sample(gate_of(gate, low, high), calibration, raw);
-    sampled_reply(sampled, probe_floats::pattern_of(volts))
-}
-
-// Levels of a dead gate are not looked at.
-fn gate_of(gate: u8, low: u32, high: u32) -> Gate
-    ensures { result ≡ gate_of gate low high }
-{
-    let low = probe_floats::float_of(low);
-    let high = probe_floats::float_of(high);
-    match gate {
-        0 => Gate::Normal { low, high },
-        1 => Gate::Inverted { low, high },
-        _ => Gate::Dead,
-    }
+    let gate = Gate::of_kind(gate, float_of(low), float_of(high));
+    let volts = calibration.volts(float_of(raw));
+    let sampled = sample(gate, calibration, raw);
+    sampled_reply(sampled, pattern_of(volts))
 }
 
 fn reading_number(reading: Reading) -> u8
@@ -67,25 +54,26 @@ fn reading_number(reading: Reading) -> u8
     }
 }
 
+// A refused sample has NaN for volts: 0 would be a voltage.
 fn unsampled() -> SampleReply
     ensures { result ≡ unsampled_reply }
 {
     SampleReply {
-        refusal: 16,
+        refusal: u8::from(Unusable),
         reading: 2,
         volts: NAN_PATTERN,
     }
 }
 
-fn sampled_reply(sampled: Sampled, volts: u32) -> SampleReply
+fn sampled_reply(sampled: Result<Reading, Unusable>, volts: u32) -> SampleReply
     ensures { result ≡ sampled_reply sampled volts }
 {
     match sampled {
-        Sampled::Read(reading) => SampleReply {
+        Ok(reading) => SampleReply {
             refusal: 0,
             reading: reading_number(reading),
             volts,
         },
-        Sampled::Refused => unsampled(),
+        Err(_) => unsampled(),
     }
 }

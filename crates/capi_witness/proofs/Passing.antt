@@ -4,8 +4,7 @@ use mathlib.Core.Path.{◌≡◌, ap, subst, ◌∙◌}
 use mathlib.Core.List.{List}
 use Rattle.event_log.specs.Log.{Log}
 use Rattle.script.specs.Script.{Script}
-use Rattle.audit_witness.specs.Witnesses.{Witnesses}
-use Rattle.audit_witness.specs.declared.showing.WitnessAnswer.{WitnessAnswer}
+use Rattle.audit_witness.specs.Witnesses.{WitnessAnswer, Witnesses}
 use Rattle.capi_witness.specs.Showing.{witness_reply, HwsqWitness}
 use Rattle.capi_witness.specs.declared.showing.WitnessReply.{WitnessReply}
 

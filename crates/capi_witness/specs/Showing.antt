@@ -6,9 +6,8 @@ use Rattle.event_log.specs.Log.{Log}
 use Rattle.script.specs.Script.{Script}
 use Rattle.audit_verdict.specs.Witness.{second_addr, second_data}
 use Rattle.audit_verdict.specs.declared.verdicts.Verdict.{Verdict}
-use Rattle.audit_witness.specs.Witnesses.{witness_of, Witnesses}
+use Rattle.audit_witness.specs.Witnesses.{WitnessAnswer, witness_of, Witnesses}
 use Rattle.audit_witness.specs.declared.showing.Shown.{Shown}
-use Rattle.audit_witness.specs.declared.showing.WitnessAnswer.{WitnessAnswer}
 use Rattle.capi_witness.specs.declared.showing.WitnessReply.{WitnessReply}
 
 -- a verdict's number, its place and, of a pass, its counts; the second start of 4 and 5 by that number

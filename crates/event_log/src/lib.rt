@@ -2,14 +2,14 @@
 // reading for, and a place in them.
 #![tactic(auto)]
 
-mod lent;
 mod coverage;
+mod lent;
 mod place;
 mod row;
 mod validity;
 
-pub use lent::Log;
 pub use coverage::{first_missing, reading_count};
+pub use lent::Log;
 pub use place::Place;
 pub use row::Row;
 pub use validity::{MAX_ROWS, clocks_in_range, valid_place};

@@ -22,49 +22,31 @@ pub fn clocks_in_range(clocks: u64) -> bool
 fn rows_in_range(clocks: &[u64]) -> bool
     ensures { result ≡ rows_in_range clocks.now }
 {
-    let mut row = 0;
-    while row < clocks.len() {
-        if !clocks_in_range(clocks[row]) {
-            return false;
-        }
-        row += 1;
-    }
-    true
+    clocks.iter().all(|clocks| clocks_in_range(*clocks))
 }
 
 impl Log<'_> {
     // Whether the columns are a log: at most 1,024 rows, columns of equal length, clocks in range.
+    #[tactic(auto, unfolding(crate::specs::Validity::valid_log))]
     pub fn is_valid(self) -> bool
         ensures { result ≡ valid_log (lent_log self.entry) }
     {
-        let Log {
-            clocks,
-            known,
-            values,
-        } = self;
-        if MAX_ROWS < clocks.len() {
-            return false;
-        }
-        if known.len() != clocks.len() {
-            return false;
-        }
-        if values.len() != clocks.len() {
-            return false;
-        }
-        rows_in_range(clocks)
+        let rows = self.clocks.len();
+        rows <= MAX_ROWS
+            && self.known.len() == rows
+            && self.values.len() == rows
+            && rows_in_range(self.clocks)
     }
 }
 
 // Whether the place lies in the log: in a row with clocks left, or at the log's end.
+#[tactic(auto, unfolding(crate::specs::Validity::valid_place))]
 pub fn valid_place(clocks: &[u64], at: Place) -> bool
     ensures { result ≡ valid_place clocks.now at }
 {
-    let row = at.row;
-    if row < clocks.len() {
-        return at.used < clocks[row];
+    if at.row < clocks.len() {
+        at.used < clocks[at.row]
+    } else {
+        at.row == clocks.len() && at.used == 0
     }
-    if row == clocks.len() {
-        return at.used == 0;
-    }
-    false
 }

@@ -1,55 +1,33 @@
 -- What the tests of an access come to, and what it leaves. Assumes nothing.
-use Prim.Native.Nat.{ℕ, ◌/◌, ◌%◌}
-use mathlib.Core.Path.{◌≡◌, refl, sym, ◌∙◌}
+use Prim.Native.Nat.{ℕ}
+use mathlib.Core.Path.{◌≡◌, refl}
 use mathlib.Core.Bool.{Bool, true, false, cond}
+use Rattle.std.specs.Prelude.{Result, Ok, Err, is_ok}
 use Rattle.families.specs.Family.{known_family}
 use Rattle.isa.specs.declared.addresses.MmioAddress.{MmioAddress}
 use Rattle.refusals.specs.declared.refusals.Inaccessible.{Inaccessible}
-use Rattle.machine_state.specs.Slot.{slot_of, with_slot}
-use Rattle.machine_state.specs.declared.slots.Slot.{Slot}
-use Rattle.machine_state.specs.declared.slots.SlotName.{SlotName}
 use Rattle.machine_state.specs.declared.state.State.{State}
 use Rattle.host_registers.specs.Access.{done, refused, after_write, is_taken, write_of}
-use Rattle.host_registers.specs.Entry.{entry_point}
 use Rattle.host_registers.specs.Register.{register_at, is_writable}
-use Rattle.host_registers.specs.Trigger.{is_start, slot_named, started_at, aborted, after_trigger}
 use Rattle.host_registers.specs.declared.access.Access.{Access}
-use Rattle.host_registers.specs.declared.access.Outcome.{Outcome}
 use Rattle.host_registers.specs.declared.registers.Register.{Register}
 use Rattle.host_access.specs.Inside.{write_outcome}
-
--- a trigger writes one slot, started or aborted
-pub triggered_as : (s : State) (word : ℕ)
-    → let name = slot_named s.family word in
-    let slot = slot_of s name in
-    with_slot s name (cond (is_start word) (started_at slot (entry_point s.family s.entries s.entries_high (word / 4 % 4))) (aborted slot)) s.flags
-    ≡ after_trigger s word
-unfolding after_trigger
-triggered_as s word = chosen (is_start word) _ _
-  where
-    name : SlotName
-    name = slot_named s.family word
-
-    chosen : (b : Bool) (x y : Slot) → with_slot s name (cond b x y) s.flags ≡ cond b (with_slot s name x s.flags) (with_slot s name y s.flags)
-    chosen true x y = refl
-    chosen false x y = refl
 
 module _ (s : State) (address : MmioAddress) (word : ℕ) where
   abbrev register : Register
   register = register_at s.family address
 
-  -- the tests in the order of the definition, with what each outcome leaves
-  abbrev Answers : Outcome → Access → Type 0
-  Answers Outcome.Done t = t ≡ done (after_write s register word)
-  Answers (Outcome.Refused why) t = t ≡ refused s why
+  -- a write whose tests come to this
+  abbrev Answers : Result Unit Inaccessible → Access → Type 0
+  Answers outcome t = ◌≡◌ {A = Access} (record { state = cond (is_ok outcome) (after_write s register word) s; outcome = outcome }) t
 
+  -- the tests in the order of the definition, with what each outcome leaves
   answers : Answers (write_outcome s.family register (is_taken s address word)) (write_of s address word)
   unfolding write_outcome write_of
   answers = chosen (known_family s.family) (is_writable register) (is_taken s address word)
     where
       chosen : (known writable taken : Bool)
-          → Answers (cond known (cond writable (cond taken Outcome.Done (Outcome.Refused Inaccessible.Executing)) (Outcome.Refused Inaccessible.Register))
-          (Outcome.Refused Inaccessible.Family))
+          → Answers (cond known (cond writable (cond taken (Ok tt) (Err Inaccessible.Executing)) (Err Inaccessible.Register)) (Err Inaccessible.Family))
           (cond known (cond writable (cond taken (done (after_write s register word)) (refused s Inaccessible.Executing)) (refused s Inaccessible.Register))
           (refused s Inaccessible.Family))
       chosen true true true = refl
@@ -58,11 +36,7 @@ module _ (s : State) (address : MmioAddress) (word : ℕ) where
       chosen false writable taken = refl
 
   -- what a write answers, by the outcome of its tests
-  pub write_done : {there : Register} {outcome : Outcome} {t : State} → there ≡ register
-      → outcome ≡ write_outcome s.family register (is_taken s address word) → outcome ≡ Outcome.Done → t ≡ after_write s there word
+  pub written_as : {there : Register} {outcome : Result Unit Inaccessible} {t : State} → there ≡ register
+      → outcome ≡ write_outcome s.family there (is_taken s address word) → t ≡ cond (is_ok outcome) (after_write s there word) s
       → ◌≡◌ {A = Access} (record { state = t; outcome = outcome }) (write_of s address word)
-  write_done r o d e = rw (e, r, d) (sym (rw (sym o ∙ d) at answers))
-
-  pub write_refused : {outcome : Outcome} {why : Inaccessible} → outcome ≡ write_outcome s.family register (is_taken s address word)
-      → outcome ≡ Outcome.Refused why → ◌≡◌ {A = Access} (record { state = s; outcome = outcome }) (write_of s address word)
-  write_refused o d = rw d (sym (rw (sym o ∙ d) at answers))
+  written_as r o e = rw (e, o, r) answers

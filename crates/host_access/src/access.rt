@@ -11,13 +11,14 @@ use crate::code::{code_word, upload};
 use crate::entries::entry_bits;
 use crate::status::{bit_if, status_word};
 use crate::triggers::{after_trigger, is_start};
-use host_registers::{Access, Outcome, ReadAnswer, Register, Written};
+use host_registers::{Access, Register, Written};
 use isa::MmioAddress;
 use machine_execution::some_executes;
 use machine_state::{Sequencer, State, sequencer_of, state_from};
 use refusals::Inaccessible;
 
 // The sequencer after a word is written to a register that takes one; a code register's bytes are stored in place.
+#[tactic(auto, unfolding(host_registers::specs::Code::after_upload))]
 fn after_write(
     mut sequencer: Sequencer,
     register: Register,
@@ -35,26 +36,22 @@ fn after_write(
             sequencer.override_mode = word / 16 % 2 == 1;
         }
         Register::EntryPoint => sequencer.entries = word,
-        Register::Status => {}
         Register::Trigger => return after_trigger(sequencer, word),
         Register::Flags0 => {
-            let flags = sequencer.flags;
             sequencer.flags = machine_flags::flags_from_words(
                 word,
-                machine_flags::flags_word_1(flags),
+                machine_flags::flags_word_1(sequencer.flags),
             );
         }
         Register::Flags1 => {
-            let flags = sequencer.flags;
             sequencer.flags = machine_flags::flags_from_words(
-                machine_flags::flags_word_0(flags),
+                machine_flags::flags_word_0(sequencer.flags),
                 word,
             );
         }
         Register::EntryPointHigh => sequencer.entries_high = entry_bits(word),
         Register::Code(at) => upload(code, marks, at.0, word),
-        Register::Events => {}
-        Register::Unlisted => {}
+        Register::Status | Register::Events | Register::Unlisted => {}
     }
     sequencer
 }
@@ -63,30 +60,29 @@ fn after_write(
 fn is_taken(address: MmioAddress, word: u32, executing: bool) -> bool
     ensures { result ≡ (is_abort address word || not executing) }
 {
-    if !executing {
-        return true;
-    }
-    address.0 == TRIGGER && !is_start(word)
+    !executing || address.0 == TRIGGER && !is_start(word)
 }
 
 // The tests of a write, in their order.
-fn write_outcome(family: u8, register: Register, taken: bool) -> Outcome
+#[tactic(auto, unfolding(crate::specs::Inside::write_outcome))]
+fn write_outcome(family: u8, register: Register, taken: bool) -> Result<(), Inaccessible>
     ensures { result ≡ write_outcome family register taken }
 {
     if !families::known_family(family) {
-        return Outcome::Refused(Inaccessible::Family);
+        return Err(Inaccessible::Family);
     }
     if !is_writable(register) {
-        return Outcome::Refused(Inaccessible::Register);
+        return Err(Inaccessible::Register);
     }
     if !taken {
-        return Outcome::Refused(Inaccessible::Executing);
+        return Err(Inaccessible::Executing);
     }
-    Outcome::Done
+    Ok(())
 }
 
 // The host writes a word at an address of a sequencer whose code RAM is lent: tested and made in one call. A refused write
 // leaves all as it is.
+#[tactic(auto, using(host_registers::proofs::RegisterLaws::register_in_room))]
 pub fn write(
     mut sequencer: Sequencer,
     address: MmioAddress,
@@ -97,33 +93,27 @@ pub fn write(
     ensures { WritesInPlace (state_from sequencer code.old marks.old) address word
         (access_of result code.new marks.new) }
 {
-    let a = sequencer.a;
-    let b = sequencer.b;
-    let mode_a = a.mode;
-    let mode_b = b.mode;
-    let register = register_at(sequencer.family, address);
-    let executing = some_executes(sequencer.family, mode_a, mode_b);
-    let taken = is_taken(address, word, executing);
-    let outcome = write_outcome(sequencer.family, register, taken);
-    match outcome {
-        Outcome::Done => sequencer = after_write(sequencer, register, word, code, marks),
-        Outcome::Refused(_) => {}
+    let family = sequencer.family;
+    let register = register_at(family, address);
+    let executing = some_executes(family, sequencer.a.mode, sequencer.b.mode);
+    let outcome = write_outcome(family, register, is_taken(address, word, executing));
+    if outcome.is_ok() {
+        sequencer = after_write(sequencer, register, word, code, marks);
     }
     Written { sequencer, outcome }
 }
 
 // The state after the host writes a word at an address; a refused write leaves it as it is.
+#[tactic(auto, using(host_registers::proofs::AccessLaws::host_writes))]
 pub fn write_register(state: State, address: MmioAddress, word: u32) -> Access
     ensures { HostWrites state address word result }
 {
     let mut code = state.code;
     let mut marks = state.marks;
     let written = write(sequencer_of(state), address, word, &mut code, &mut marks);
-    let sequencer = written.sequencer;
-    let outcome = written.outcome;
     Access {
-        state: state_from(sequencer, code, marks),
-        outcome,
+        state: state_from(written.sequencer, code, marks),
+        outcome: written.outcome,
     }
 }
 
@@ -134,32 +124,32 @@ fn control_word(enable: bool, override_mode: bool) -> u32
 }
 
 // What a register reads as. TRIGGER and EVENTS cannot be read.
-fn reading_of(state: State, register: Register) -> ReadAnswer
+fn reading_of(state: State, register: Register) -> Result<u32, Inaccessible>
     requires { InRoom register }
     ensures { result ≡ reading_of state register }
 {
-    let flags = state.flags;
     let word = match register {
         Register::Control => control_word(state.enable, state.override_mode),
         Register::EntryPoint => state.entries,
         Register::Status => status_word(state),
-        Register::Trigger => return ReadAnswer::Refused(Inaccessible::Register),
-        Register::Flags0 => machine_flags::flags_word_0(flags),
-        Register::Flags1 => machine_flags::flags_word_1(flags),
+        Register::Flags0 => machine_flags::flags_word_0(state.flags),
+        Register::Flags1 => machine_flags::flags_word_1(state.flags),
         Register::EntryPointHigh => entry_bits(state.entries_high),
         Register::Code(at) => code_word(state, at.0),
-        Register::Events => return ReadAnswer::Refused(Inaccessible::Register),
-        Register::Unlisted => return ReadAnswer::Refused(Inaccessible::Register),
+        Register::Trigger | Register::Events | Register::Unlisted => {
+            return Err(Inaccessible::Register);
+        }
     };
-    ReadAnswer::Word(word)
+    Ok(word)
 }
 
 // The word that the host reads at an address.
-pub fn read_register(state: State, address: MmioAddress) -> ReadAnswer
+#[tactic(auto, using(host_registers::proofs::RegisterLaws::register_in_room))]
+pub fn read_register(state: State, address: MmioAddress) -> Result<u32, Inaccessible>
     ensures { HostReads state address result }
 {
     if !families::known_family(state.family) {
-        return ReadAnswer::Refused(Inaccessible::Family);
+        return Err(Inaccessible::Family);
     }
     reading_of(state, register_at(state.family, address))
 }

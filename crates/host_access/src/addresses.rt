@@ -48,6 +48,7 @@ fn code_in(size: usize, offset: u32) -> Register
 }
 
 // The code register at an address: CODE, which shows 256 bytes at most, or NEW_CODE.
+#[tactic(auto, unfolding(host_registers::specs::Register::code_at))]
 fn code_at(family: u8, at: u32) -> Register
     ensures { result ≡ code_at family at }
 {
@@ -58,6 +59,7 @@ fn code_at(family: u8, at: u32) -> Register
     }
 }
 
+#[tactic(auto, unfolding(host_registers::specs::Register::register_at))]
 pub(crate) fn register_at(family: u8, address: MmioAddress) -> Register
     ensures { result ≡ register_at family address }
 {
@@ -78,16 +80,8 @@ pub(crate) fn register_at(family: u8, address: MmioAddress) -> Register
 pub(crate) fn is_writable(register: Register) -> bool
     ensures { result ≡ is_writable register }
 {
-    match register {
-        Register::Control => true,
-        Register::EntryPoint => true,
-        Register::Status => false,
-        Register::Trigger => true,
-        Register::Flags0 => true,
-        Register::Flags1 => true,
-        Register::EntryPointHigh => true,
-        Register::Code(_) => true,
-        Register::Events => false,
-        Register::Unlisted => false,
-    }
+    !matches!(
+        register,
+        Register::Status | Register::Events | Register::Unlisted
+    )
 }

@@ -2,7 +2,7 @@
 ghost use Rattle.std.specs.Prelude.{◌≡◌, ◌+◌, ◌≤◌};
 ghost use Rattle.std.proofs.lemmas.List.Edits.{sets};
 ghost use Rattle.isa.specs.Writer.{le_bytes};
-ghost use Rattle.host_registers.specs.Code.{byte_in, code_word, four_marks};
+ghost use Rattle.host_registers.specs.Code.{uploaded_byte, code_word, four_marks};
 
 use machine_state::State;
 use words::word;
@@ -32,23 +32,26 @@ pub(crate) fn upload(
 }
 
 // A byte that was uploaded, and 0 where none was.
-fn uploaded_byte(code: [u8; families::MAX_CODE], marks: [u8; families::MAX_CODE], at: usize) -> u8
+#[tactic(auto, unfolding(host_registers::specs::Code::uploaded_byte))]
+fn uploaded_byte(state: State, at: usize) -> u8
     requires { at + 1 ≤ 512 }
-    ensures { result ≡ byte_in code marks at }
+    ensures { result ≡ uploaded_byte state at }
 {
-    if marks[at] == 1 { code[at] } else { 0 }
+    if state.marks[at] == 1 {
+        state.code[at]
+    } else {
+        0
+    }
 }
 
 pub(crate) fn code_word(state: State, at: usize) -> u32
     requires { at + 4 ≤ 512 }
     ensures { result ≡ code_word state at }
 {
-    let code = state.code;
-    let marks = state.marks;
     word(
-        uploaded_byte(code, marks, at),
-        uploaded_byte(code, marks, at + 1),
-        uploaded_byte(code, marks, at + 2),
-        uploaded_byte(code, marks, at + 3),
+        uploaded_byte(state, at),
+        uploaded_byte(state, at + 1),
+        uploaded_byte(state, at + 2),
+        uploaded_byte(state, at + 3),
     )
 }

@@ -15,6 +15,7 @@ pub(crate) fn entry_bits(word: u32) -> u32
 }
 
 // Entry point 0 to 3: its byte of ENTRY_POINT, and on family 4 its bit of ENTRY_POINT_HIGH above that.
+#[tactic(auto, unfolding(host_registers::specs::Entry::entry_point))]
 pub(crate) fn entry_point(family: u8, low: u32, high: u32, number: u32) -> usize
     requires { number < 4 }
     ensures { result ≡ entry_point family low high number }

@@ -1,6 +1,6 @@
 // The register STATUS.
 ghost use Rattle.std.specs.Prelude.{◌≡◌, ◌≤◌, ◌<◌};
-ghost use Rattle.host_registers.specs.Status.{bit_if, is_hung, shows_hang, shows_bit8, slot_status, status_word};
+ghost use Rattle.host_registers.specs.Status.{bit_if, shows_hang, shows_bit8, slot_status, status_word};
 
 use crate::addresses::is_high;
 use machine_state::{Mode, Slot, SlotName, State};
@@ -13,23 +13,11 @@ pub(crate) fn bit_if(lit: bool, weight: u32) -> u32
     if lit { weight } else { 0 }
 }
 
-fn is_hung(mode: Mode) -> bool
-    ensures { result ≡ is_hung mode }
-{
-    match mode {
-        Mode::Idle => false,
-        Mode::Running => false,
-        Mode::Waiting => false,
-        Mode::Blocked => false,
-        Mode::Hung => true,
-    }
-}
-
 // The families whose unknown opcodes hang a slot show it.
 fn shows_hang(family: u8, mode: Mode) -> bool
     ensures { result ≡ shows_hang family mode }
 {
-    families::unknown_hangs(family) && is_hung(mode)
+    families::unknown_hangs(family) && mode == Mode::Hung
 }
 
 // The family whose IP has nine bits shows the ninth.
@@ -40,28 +28,24 @@ fn shows_bit_8(family: u8, ip: usize) -> bool
 }
 
 // What STATUS shows of one slot.
+#[tactic(auto, unfolding(host_registers::specs::Status::slot_status))]
 fn slot_status(family: u8, slot: Slot) -> u32
     ensures value { result ≡ slot_status family slot }
     ensures upper_bound { result < 65536 }
 {
-    let mode = slot.mode;
-    let ip = slot.ip.0;
-    let low = (ip % 256) as u32;
-    let executing = bit_if(!machine_state::is_idle(mode), 256);
-    let hung = bit_if(shows_hang(family, mode), 512);
-    let high = bit_if(shows_bit_8(family, ip), 1024);
-    low + executing + hung + high
+    let executing = bit_if(!machine_state::is_idle(slot.mode), 256);
+    let hung = bit_if(shows_hang(family, slot.mode), 512);
+    let high = bit_if(shows_bit_8(family, slot.ip.0), 1024);
+    (slot.ip.0 % 256) as u32 + executing + hung + high
 }
 
+#[tactic(auto, unfolding(host_registers::specs::Status::status_word))]
 pub(crate) fn status_word(state: State) -> u32
     ensures { result ≡ status_word state }
 {
-    let family = state.family;
-    let a = state.a;
-    let b = state.b;
-    if machine_state::has_slot(family, SlotName::B) {
-        slot_status(family, a) + 65536 * slot_status(family, b)
+    if machine_state::has_slot(state.family, SlotName::B) {
+        slot_status(state.family, state.a) + 65536 * slot_status(state.family, state.b)
     } else {
-        slot_status(family, a)
+        slot_status(state.family, state.a)
     }
 }

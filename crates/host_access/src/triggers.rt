@@ -28,44 +28,33 @@ fn slot_named(family: u8, word: u32) -> SlotName
 fn triggered(slot: Slot, word: u32, entry: usize) -> Slot
     ensures { result ≡ cond (is_start word) (started_at slot entry) (aborted slot) }
 {
-    let addr = slot.addr;
     if is_start(word) {
-        return Slot {
+        Slot {
             mode: Mode::Running,
             ip: CodeAddress(entry),
-            addr,
-            data: slot.data,
-        };
-    }
-    let ip = slot.ip;
-    Slot {
-        mode: Mode::Idle,
-        ip,
-        addr,
-        data: slot.data,
+            ..slot
+        }
+    } else {
+        Slot {
+            mode: Mode::Idle,
+            ..slot
+        }
     }
 }
 
+#[tactic(auto, unfolding(host_registers::specs::Trigger::after_trigger))]
 pub(crate) fn after_trigger(mut sequencer: Sequencer, word: u32) -> Sequencer
     ensures { (code marks : List ℕ) → state_from result code marks ≡ after_trigger (state_from sequencer code marks) word }
 {
-    let number = word / 4 % 4;
     let entry = entry_point(
         sequencer.family,
         sequencer.entries,
         sequencer.entries_high,
-        number,
+        word / 4 % 4,
     );
-    let name = slot_named(sequencer.family, word);
-    match name {
-        SlotName::A => {
-            let slot = sequencer.a;
-            sequencer.a = triggered(slot, word, entry);
-        }
-        SlotName::B => {
-            let slot = sequencer.b;
-            sequencer.b = triggered(slot, word, entry);
-        }
+    match slot_named(sequencer.family, word) {
+        SlotName::A => sequencer.a = triggered(sequencer.a, word, entry),
+        SlotName::B => sequencer.b = triggered(sequencer.b, word, entry),
     }
     sequencer
 }

@@ -7,7 +7,7 @@ ghost use Rattle.machine_state.specs.Sequencer.{sequencer_of};
 ghost use Rattle.host_registers.specs.Access.{blank_state};
 ghost use Rattle.host_registers.specs.Promises.{Begins};
 
-use host_registers::{Access, Outcome};
+use host_registers::Access;
 use isa::{CodeAddress, MmioAddress};
 use machine_flags::Flags;
 use machine_state::{Mode, Sequencer, Slot, state_from};
@@ -38,13 +38,13 @@ pub fn fresh_sequencer(family: u8) -> Sequencer
     }
 }
 
-fn fresh_outcome(family: u8) -> Outcome
-    ensures { result ≡ cond (known_family family) Outcome.Done (Outcome.Refused Inaccessible.Family) }
+fn fresh_outcome(family: u8) -> Result<(), Inaccessible>
+    ensures { result ≡ cond (known_family family) (Ok tt) (Err Inaccessible.Family) }
 {
     if !families::known_family(family) {
-        return Outcome::Refused(Inaccessible::Family);
+        return Err(Inaccessible::Family);
     }
-    Outcome::Done
+    Ok(())
 }
 
 // The state of a card before the host touched it.

@@ -3,6 +3,7 @@ use Prim.Native.Nat.{ℕ, ◌^◌, ◌<◌}
 use native.Mathlib.Omega.{arith}
 use mathlib.Core.Path.{◌≡◌, refl, sym, ap, subst, ◌∙◌}
 use mathlib.Core.Bool.{Bool, true, false, cond, not, ◌&&◌, ◌||◌}
+use Rattle.std.specs.Prelude.{Result, Ok, Err}
 use Rattle.families.specs.Family.{known_family}
 use Rattle.families.proofs.Tests.{cond_elim}
 use Rattle.isa.specs.declared.addresses.CodeAddress.{CodeAddress}
@@ -24,8 +25,6 @@ use Rattle.host_registers.proofs.RegisterLaws.{register_in_room}
 use Rattle.host_registers.proofs.StatusBits.{status_shown}
 use Rattle.host_registers.proofs.TriggerBits.{triggers}
 use Rattle.host_registers.specs.declared.access.Access.{Access}
-use Rattle.host_registers.specs.declared.access.Outcome.{Outcome}
-use Rattle.host_registers.specs.declared.access.ReadAnswer.{ReadAnswer}
 use Rattle.refusals.specs.declared.refusals.Inaccessible.{Inaccessible}
 use Rattle.host_registers.specs.declared.registers.Register.{Register}
 
@@ -43,7 +42,7 @@ by_test true f g = f refl
 by_test false f g = g refl
 
 -- a refused access is not done
-undone : {A : Type 0} {why : Inaccessible} → Outcome.Refused why ≡ Outcome.Done → A
+undone : {A : Type 0} {why : Inaccessible} → ◌≡◌ {A = Result Unit Inaccessible} (Err why) (Ok tt) → A
 undone e = let z : ◌≡◌ {A = ℕ} 0 1 = cc in absurd (omega arith)
 
 -- taken where no slot executes or the write is an abort, and otherwise 28
@@ -195,10 +194,10 @@ module _ (s : State) (address : MmioAddress) (word : ℕ) where
       (λ u d. undone d)
     where
       Taken : Access → Type 0
-      Taken t = t.outcome ≡ Outcome.Done → Triggers s word t.state
+      Taken t = t.outcome ≡ Ok tt → Triggers s word t.state
 
-  write_back : Roomy s → word < 2 ^ 32 → (write_of s address word).outcome ≡ Outcome.Done → is_readable register ≡ true
-      → read_of (write_of s address word).state address ≡ ReadAnswer.Word (kept_bits register word)
+  write_back : Roomy s → word < 2 ^ 32 → (write_of s address word).outcome ≡ Ok tt → is_readable register ≡ true
+      → read_of (write_of s address word).state address ≡ Ok (kept_bits register word)
   unfolding write_of read_of
   write_back roomy small =
       cond_elim Back (known_family s.family)
@@ -210,7 +209,7 @@ module _ (s : State) (address : MmioAddress) (word : ℕ) where
       (λ u d r. undone d)
     where
       Back : Access → Type 0
-      Back t = t.outcome ≡ Outcome.Done → is_readable register ≡ true → read_of t.state address ≡ ReadAnswer.Word (kept_bits register word)
+      Back t = t.outcome ≡ Ok tt → is_readable register ≡ true → read_of t.state address ≡ Ok (kept_bits register word)
 
   write_events : known_family s.family ≡ true → address.0 ≡ 0x001578 → outcome_number (write_of s address word).outcome ≡ 27
   unfolding write_of
@@ -248,7 +247,7 @@ reading_number_lem s Register.Events = refl
 reading_number_lem s Register.Unlisted = refl
 
 module _ (s : State) (address : MmioAddress) where
-  abbrev Numbered : ReadAnswer → Type 0
+  abbrev Numbered : Result ℕ Inaccessible → Type 0
   Numbered t = reading_number t ≡ read_refusal s address
 
   read_number : Numbered (read_of s address)
@@ -259,11 +258,11 @@ module _ (s : State) (address : MmioAddress) where
   unfolding read_of
   read_as u = simp u
 
-  pub host_reads : {t : ReadAnswer} → t ≡ read_of s address → HostReads s address t
+  pub host_reads : {t : Result ℕ Inaccessible} → t ≡ read_of s address → HostReads s address t
   host_reads e = record {
     answered = e;
     numbered = subst Numbered (sym e) read_number;
     status = λ u h. (status_word s, e ∙ read_as u ∙ ap (reading_of s) (status_here s address 0 h), status_shown s);
-    trigger = λ u h. subst (λ (t : ReadAnswer). reading_number t ≡ 27) (sym e) (rw (read_as u, trigger_here s address 0 h));
-    events = λ u h. subst (λ (t : ReadAnswer). reading_number t ≡ 27) (sym e) (rw (read_as u, events_here s address 0 h));
+    trigger = λ u h. subst (λ (t : Result ℕ Inaccessible). reading_number t ≡ 27) (sym e) (rw (read_as u, trigger_here s address 0 h));
+    events = λ u h. subst (λ (t : Result ℕ Inaccessible). reading_number t ≡ 27) (sym e) (rw (read_as u, events_here s address 0 h));
   }

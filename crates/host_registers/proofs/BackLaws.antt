@@ -2,6 +2,7 @@
 use Prim.Native.Nat.{ℕ, ◌+◌, ◌*◌, ◌/◌, ◌%◌, ◌^◌, ◌≤◌, ◌<◌}
 use mathlib.Core.Path.{◌≡◌, refl, subst}
 use mathlib.Core.Bool.{true, false}
+use Rattle.std.specs.Prelude.{Ok}
 use mathlib.Core.List.{List, ◌++◌, append_assoc}
 use native.Mathlib.Omega.{arith}
 use lib.Dec.{eqb}
@@ -19,7 +20,6 @@ use Rattle.host_registers.specs.Entry.{entry_bits}
 use Rattle.host_registers.specs.Promises.{is_readable, kept_bits}
 use Rattle.host_registers.specs.Register.{InRoom, is_writable}
 use Rattle.host_registers.specs.Status.{bit_if}
-use Rattle.host_registers.specs.declared.access.ReadAnswer.{ReadAnswer}
 use Rattle.host_registers.specs.declared.registers.Register.{Register}
 
 never : {A : Type 0} → false ≡ true → A
@@ -84,7 +84,7 @@ module _ (s : State) (roomy : Roomy s) (at word : ℕ) (fits : at + 4 ≤ 512) w
 
 pub word_back : (s : State) → Roomy s → (register : Register) (word : ℕ) → word < 2 ^ 32 → InRoom register → is_writable register ≡ true
     → is_readable register ≡ true
-    → reading_of (after_write s register word) register ≡ ReadAnswer.Word (kept_bits register word)
+    → reading_of (after_write s register word) register ≡ Ok (kept_bits register word)
 word_back s roomy Register.Control word h room w r = rw (control_back word)
 word_back s roomy Register.EntryPoint word h room w r = refl
 word_back s roomy Register.Status word h room w r = never (cc)

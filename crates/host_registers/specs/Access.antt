@@ -1,5 +1,5 @@
 -- A fresh state, and the host's writes and reads (01, "Host registers"; 004, "MMIO registers").
-use Rattle.std.specs.Prelude.{ℕ, ◌+◌, ◌/◌, ◌%◌, Bool, false, cond, not, ◌&&◌, ◌||◌, List, eqb, replicate}
+use Rattle.std.specs.Prelude.{ℕ, ◌+◌, ◌/◌, ◌%◌, Bool, false, cond, not, ◌&&◌, ◌||◌, List, eqb, replicate, Result, Ok, Err}
 use Rattle.families.specs.Family.{known_family, max_code}
 use Rattle.isa.specs.declared.addresses.MmioAddress.{MmioAddress}
 use Rattle.machine_flags.specs.Flags.{flags_word0, flags_word1, flags_from_words}
@@ -14,18 +14,16 @@ use Rattle.host_registers.specs.Register.{trigger_at, register_at, is_writable}
 use Rattle.host_registers.specs.Status.{bit_if, status_word}
 use Rattle.host_registers.specs.Trigger.{is_start, after_trigger}
 use Rattle.host_registers.specs.declared.access.Access.{Access}
-use Rattle.host_registers.specs.declared.access.Outcome.{Outcome}
-use Rattle.host_registers.specs.declared.access.ReadAnswer.{ReadAnswer}
 use Rattle.host_registers.specs.declared.access.Written.{Written}
 use Rattle.refusals.specs.declared.refusals.Inaccessible.{Inaccessible}
 use Rattle.host_registers.specs.declared.registers.Register.{Register}
 
 abbrev pub done : State → Access
-done s = record { state = s; outcome = Outcome.Done }
+done s = record { state = s; outcome = Ok tt }
 
 -- a refusal leaves the state as it is
 abbrev pub refused : State → Inaccessible → Access
-refused s why = record { state = s; outcome = Outcome.Refused why }
+refused s why = record { state = s; outcome = Err why }
 
 -- a write whose code was stored in place, as an access
 abbrev pub access_of : Written → List ℕ → List ℕ → Access
@@ -120,18 +118,18 @@ write_of s address word =
     (refused s Inaccessible.Family)
 
 -- what each register reads as; TRIGGER is write only, and EVENTS is not read either
-abbrev pub reading_of : State → Register → ReadAnswer
-reading_of s Register.Control = ReadAnswer.Word (control_word s.enable s.override_mode)
-reading_of s Register.EntryPoint = ReadAnswer.Word s.entries
-reading_of s Register.Status = ReadAnswer.Word (status_word s)
-reading_of s Register.Trigger = ReadAnswer.Refused Inaccessible.Register
-reading_of s Register.Flags0 = ReadAnswer.Word (flags_word0 s.flags)
-reading_of s Register.Flags1 = ReadAnswer.Word (flags_word1 s.flags)
-reading_of s Register.EntryPointHigh = ReadAnswer.Word (entry_bits s.entries_high)
-reading_of s (Register.Code at) = ReadAnswer.Word (code_word s at.0)
-reading_of s Register.Events = ReadAnswer.Refused Inaccessible.Register
-reading_of s Register.Unlisted = ReadAnswer.Refused Inaccessible.Register
+abbrev pub reading_of : State → Register → Result ℕ Inaccessible
+reading_of s Register.Control = Ok (control_word s.enable s.override_mode)
+reading_of s Register.EntryPoint = Ok s.entries
+reading_of s Register.Status = Ok (status_word s)
+reading_of s Register.Trigger = Err Inaccessible.Register
+reading_of s Register.Flags0 = Ok (flags_word0 s.flags)
+reading_of s Register.Flags1 = Ok (flags_word1 s.flags)
+reading_of s Register.EntryPointHigh = Ok (entry_bits s.entries_high)
+reading_of s (Register.Code at) = Ok (code_word s at.0)
+reading_of s Register.Events = Err Inaccessible.Register
+reading_of s Register.Unlisted = Err Inaccessible.Register
 
 -- a read is refused for the family first
-unfoldable pub read_of : State → MmioAddress → ReadAnswer
-read_of s address = cond (known_family s.family) (reading_of s (register_at s.family address)) (ReadAnswer.Refused Inaccessible.Family)
+unfoldable pub read_of : State → MmioAddress → Result ℕ Inaccessible
+read_of s address = cond (known_family s.family) (reading_of s (register_at s.family address)) (Err Inaccessible.Family)

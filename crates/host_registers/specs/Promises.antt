@@ -1,5 +1,5 @@
 -- What the host's calls promise of their answers.
-use Rattle.std.specs.Prelude.{ℕ, ◌*◌, ◌/◌, ◌%◌, ◌≡◌, Bool, true, false, cond, not, ◌&&◌}
+use Rattle.std.specs.Prelude.{ℕ, ◌*◌, ◌/◌, ◌%◌, ◌≡◌, Bool, true, false, cond, not, ◌&&◌, Result, Ok, Err}
 use Rattle.families.specs.Family.{known_family}
 use Rattle.isa.specs.declared.addresses.MmioAddress.{MmioAddress}
 use Rattle.machine_state.specs.Slot.{slot_of}
@@ -8,24 +8,23 @@ use Rattle.machine_state.specs.declared.slots.SlotName.{SlotName}
 use Rattle.machine_state.specs.declared.state.State.{State}
 use Rattle.host_registers.specs.Access.{fresh_of, write_of, read_of, is_abort}
 use Rattle.refusals.specs.Number.{inaccessible_number}
+use Rattle.refusals.specs.declared.refusals.Inaccessible.{Inaccessible}
 use Rattle.host_registers.specs.Entry.{entry_bits}
 use Rattle.machine_execution.specs.Execution.{some_slot_executes}
 use Rattle.host_registers.specs.Register.{status_at, trigger_at, register_at, is_writable}
 use Rattle.host_registers.specs.Status.{ShowsStatus}
 use Rattle.host_registers.specs.Trigger.{is_start, slot_named, Triggers}
 use Rattle.host_registers.specs.declared.access.Access.{Access}
-use Rattle.host_registers.specs.declared.access.Outcome.{Outcome}
-use Rattle.host_registers.specs.declared.access.ReadAnswer.{ReadAnswer}
 use Rattle.host_registers.specs.declared.registers.Register.{Register}
 
 -- the number that an outcome stands for, 0 where nothing was refused
-abbrev pub outcome_number : Outcome → ℕ
-outcome_number Outcome.Done = 0
-outcome_number (Outcome.Refused why) = inaccessible_number why
+abbrev pub outcome_number : Result Unit Inaccessible → ℕ
+outcome_number (Ok tt) = 0
+outcome_number (Err why) = inaccessible_number why
 
-abbrev pub reading_number : ReadAnswer → ℕ
-reading_number (ReadAnswer.Word word) = 0
-reading_number (ReadAnswer.Refused why) = inaccessible_number why
+abbrev pub reading_number : Result ℕ Inaccessible → ℕ
+reading_number (Ok word) = 0
+reading_number (Err why) = inaccessible_number why
 
 -- which number a fresh state must have: 9 where the number names no family
 abbrev pub fresh_refusal : ℕ → ℕ
@@ -58,9 +57,9 @@ unfoldable pub read_refusal : State → MmioAddress → ℕ
 read_refusal s address = cond (not (known_family s.family)) 9 (cond (not (is_readable (register_at s.family address))) 27 0)
 
 -- a refused write leaves the state as it is
-abbrev pub Unmoved : State → State → Outcome → Type 0
-Unmoved s t Outcome.Done = Unit {0}
-Unmoved s t (Outcome.Refused why) = t ≡ s
+abbrev pub Unmoved : State → State → Result Unit Inaccessible → Type 0
+Unmoved s t (Ok tt) = Unit {0}
+Unmoved s t (Err why) = t ≡ s
 
 -- no host write reaches the family, or a slot's ADDR and DATA
 pub record Spares (s t : State) : Type 0 where
@@ -70,7 +69,7 @@ pub record Spares (s t : State) : Type 0 where
 
 -- an abort is taken whatever executes, and its slot is idle then, hung or not before, with IP where it was
 pub record Stops (s : State) (name : SlotName) (answer : Access) : Type 0 where
-  pub taken : answer.outcome ≡ Outcome.Done
+  pub taken : answer.outcome ≡ Ok tt
   pub idle : (slot_of answer.state name).mode ≡ Mode.Idle
   pub ip : (slot_of answer.state name).ip ≡ (slot_of s name).ip
   -- on an idle slot it does nothing
@@ -95,7 +94,7 @@ pub record Begins (family : ℕ) (answer : Access) : Type 0 where
 
 -- what a word does that TRIGGER takes
 abbrev pub TakenTrigger : State → MmioAddress → ℕ → Access → Type 0
-TakenTrigger s address word answer = address.0 ≡ trigger_at → answer.outcome ≡ Outcome.Done → Triggers s word answer.state
+TakenTrigger s address word answer = address.0 ≡ trigger_at → answer.outcome ≡ Ok tt → Triggers s word answer.state
 
 -- a write whose code is stored in place
 pub record WritesInPlace (s : State) (address : MmioAddress) (word : ℕ) (answer : Access) : Type 0 where
@@ -112,16 +111,16 @@ pub record HostWrites (s : State) (address : MmioAddress) (word : ℕ) (answer :
   pub spares : Spares s answer.state
   pub stops : known_family s.family ≡ true → address.0 ≡ trigger_at → is_start word ≡ false → Stops s (slot_named s.family word) answer
   -- what was written reads back
-  pub reads_back : answer.outcome ≡ Outcome.Done → is_readable (register_at s.family address) ≡ true
-      → read_of answer.state address ≡ ReadAnswer.Word (kept_bits (register_at s.family address) word)
+  pub reads_back : answer.outcome ≡ Ok tt → is_readable (register_at s.family address) ≡ true
+      → read_of answer.state address ≡ Ok (kept_bits (register_at s.family address) word)
   -- EVENTS is not writable
   pub events : known_family s.family ≡ true → address.0 ≡ 0x001578 → outcome_number answer.outcome ≡ 27
 
-pub record HostReads (s : State) (address : MmioAddress) (answer : ReadAnswer) : Type 0 where
+pub record HostReads (s : State) (address : MmioAddress) (answer : Result ℕ Inaccessible) : Type 0 where
   pub answered : answer ≡ read_of s address
   pub numbered : reading_number answer ≡ read_refusal s address
   -- STATUS reads as a word that shows both slots
-  pub status : known_family s.family ≡ true → address.0 ≡ status_at → (word : ℕ) × (answer ≡ ReadAnswer.Word word) × ShowsStatus s word
+  pub status : known_family s.family ≡ true → address.0 ≡ status_at → (word : ℕ) × (answer ≡ Ok word) × ShowsStatus s word
   -- TRIGGER and EVENTS are not readable
   pub trigger : known_family s.family ≡ true → address.0 ≡ trigger_at → reading_number answer ≡ 27
   pub events : known_family s.family ≡ true → address.0 ≡ 0x001578 → reading_number answer ≡ 27

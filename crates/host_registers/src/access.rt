@@ -2,28 +2,16 @@
 use machine_state::{Sequencer, State};
 use refusals::Inaccessible;
 
-#[derive(Clone, Copy)]
-pub enum Outcome {
-    Done,
-    Refused(Inaccessible),
-}
-
-// The state after an access, with its outcome.
+// The state after an access, and whether it was made. A refused write's state is as it was.
 #[derive(Clone, Copy)]
 pub struct Access {
     pub state: State,
-    pub outcome: Outcome,
+    pub outcome: Result<(), Inaccessible>,
 }
 
-// The sequencer after a write whose code is stored in place, with its outcome.
+// The sequencer after a write whose code is stored in place, and whether it was made.
 #[derive(Clone, Copy)]
 pub struct Written {
     pub sequencer: Sequencer,
-    pub outcome: Outcome,
-}
-
-#[derive(Clone, Copy)]
-pub enum ReadAnswer {
-    Word(u32),
-    Refused(Inaccessible),
+    pub outcome: Result<(), Inaccessible>,
 }

@@ -34,16 +34,8 @@ pub(crate) fn size_of(opcode: Opcode) -> usize
     ensures { result ≡ size_of opcode }
 {
     match opcode {
-        Opcode::Wait => 1,
-        Opcode::AddrLo => 3,
-        Opcode::DataLo => 3,
-        Opcode::Ewait => 3,
-        Opcode::Exit => 1,
-        Opcode::Unset => 1,
-        Opcode::Set1 => 1,
-        Opcode::Set0 => 1,
-        Opcode::Addr => 5,
-        Opcode::Data => 5,
-        Opcode::Unknown => 1,
+        Opcode::AddrLo | Opcode::DataLo | Opcode::Ewait => 3,
+        Opcode::Addr | Opcode::Data => 5,
+        _ => 1,
     }
 }

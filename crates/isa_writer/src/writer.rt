@@ -1,12 +1,11 @@
 // The instruction writer: the one spelling of an instruction, laid into lent bytes.
 ghost use Rattle.std.specs.Prelude.{◌≡◌, ◌≤◌, true, ◌∷◌, ◌++◌, length, drop};
-ghost use Rattle.isa.specs.Wait.{wait_fits};
 ghost use Rattle.isa.specs.Writer.{opcode_of, on_family, operands_fit, le_bytes, spell};
 ghost use Rattle.isa.specs.Codec.{InType, Writes};
 ghost use Rattle.isa_writer.specs.Spelling.{spelling_bytes};
 
 use families::known_family;
-use isa::{Instruction, Opcode};
+use isa::{Instruction, Opcode, wait_fits};
 use refusals::Unwritable;
 
 // The bytes of an instruction.
@@ -61,16 +60,9 @@ fn on_family(family: u8, opcode: Opcode) -> bool
     ensures { result ≡ on_family family opcode }
 {
     match opcode {
-        Opcode::Wait => true,
-        Opcode::AddrLo => 2 <= family,
-        Opcode::DataLo => 2 <= family,
-        Opcode::Ewait => 2 <= family,
-        Opcode::Exit => true,
-        Opcode::Unset => true,
-        Opcode::Set1 => true,
-        Opcode::Set0 => true,
-        Opcode::Addr => 2 <= family,
-        Opcode::Data => 2 <= family,
+        Opcode::Wait | Opcode::Exit | Opcode::Unset | Opcode::Set1 | Opcode::Set0 => true,
+        Opcode::AddrLo | Opcode::DataLo | Opcode::Ewait | Opcode::Addr | Opcode::Data => 2
+            <= family,
         Opcode::Unknown => false,
     }
 }
@@ -81,23 +73,9 @@ fn operands_fit(instruction: Instruction) -> bool
 {
     match instruction {
         Instruction::Wait { length, shift } => wait_fits(length, shift),
-        Instruction::AddrLo(_) => true,
-        Instruction::DataLo(_) => true,
-        Instruction::Ewait { .. } => true,
-        Instruction::Exit => true,
-        Instruction::Unset(flag) => flag <= 31,
-        Instruction::Set1(flag) => flag <= 31,
-        Instruction::Set0(flag) => flag <= 31,
-        Instruction::Addr(_) => true,
-        Instruction::Data(_) => true,
+        Instruction::Unset(flag) | Instruction::Set1(flag) | Instruction::Set0(flag) => flag <= 31,
+        _ => true,
     }
-}
-
-// Whether a wait's one byte can hold these operands.
-fn wait_fits(len: u8, shift: u8) -> bool
-    ensures { result ≡ wait_fits len shift }
-{
-    len <= 3 && shift <= 15
 }
 
 fn spelled(instruction: Instruction) -> Spelling
@@ -121,22 +99,15 @@ fn spelled(instruction: Instruction) -> Spelling
 fn spelled16(first: u8, x: u16) -> Spelling
     ensures { spelling_bytes result ≡ first ∷ le_bytes 2 x }
 {
-    Spelling::Three(first, (x % 256) as u8, (x / 256 % 256) as u8)
+    let [low, high] = x.to_le_bytes();
+    Spelling::Three(first, low, high)
 }
 
 fn spelled32(first: u8, x: u32) -> Spelling
     ensures { spelling_bytes result ≡ first ∷ le_bytes 4 x }
 {
-    let b = x / 256;
-    let c = b / 256;
-    let d = c / 256;
-    Spelling::Five(
-        first,
-        (x % 256) as u8,
-        (b % 256) as u8,
-        (c % 256) as u8,
-        (d % 256) as u8,
-    )
+    let [a, b, c, d] = x.to_le_bytes();
+    Spelling::Five(first, a, b, c, d)
 }
 
 fn width(spelling: Spelling) -> usize

@@ -19,7 +19,7 @@ use Rattle.audit_verdict.specs.Auditor.{audit_of}
 use Rattle.script.proofs.Scripts.{fits_script}
 use Rattle.run.specs.Replay.{entries_of, written_into, progress_of, run_answer_of, lent_after}
 use Rattle.run.specs.declared.answers.Progress.{Progress}
-use Rattle.run.specs.declared.answers.RunAnswer.{RunAnswer}
+use Rattle.run.specs.Replay.{RunAnswer}
 use Rattle.run.proofs.Entries.{entries_length, written_entries}
 use Rattle.job_records.specs.Job.{ranges_of, log_in}
 use Rattle.job_records.specs.Started.{executing, script_in}

@@ -7,7 +7,7 @@ use Rattle.audit_verdict.specs.declared.verdicts.Verdict.{Verdict}
 use Rattle.run.specs.Replay.{progress_of, entries_of, RunsSlot}
 use Rattle.run.specs.SlotRun.{script_scene}
 use Rattle.run.specs.declared.answers.Progress.{Progress}
-use Rattle.run.specs.declared.answers.RunAnswer.{RunAnswer}
+use Rattle.run.specs.Replay.{RunAnswer}
 use Rattle.job_records.specs.Reader.{Sound}
 use Rattle.job_records.specs.Started.{Started, executing, script_in}
 use Rattle.job_records.specs.declared.contents.Job.{Job}

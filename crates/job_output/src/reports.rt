@@ -1,7 +1,7 @@
 // The report on a job, whole.
 ghost use Rattle.std.specs.Prelude.{◌≡◌, ◌++◌, ◌≤◌, length, take};
 ghost use Rattle.job_text.specs.Put.{Stored};
-ghost use Rattle.job_report.specs.Lines.{family_line, row_lines};
+ghost use Rattle.job_report.specs.Lines.{family_line};
 ghost use Rattle.job_report.specs.Report.{last_lines};
 ghost use Rattle.job_report.specs.Promises.{max_report, Reports};
 ghost use Rattle.job_output.specs.Inside.{verdict_line};
@@ -60,9 +60,8 @@ pub fn report(job: &[u8], out: &mut [u8; MAX_REPORT]) -> usize
         return 0;
     };
     let a = put_verdict(out, sequencer.family, verdict);
-    let used = 2 * last.writes;
-    let b = put_writes(out, a, &entries[..used]);
-    let c = put_known(out, b, &read.job.known, read.job.counts.rows);
+    let b = put_writes(out, a, &entries[..2 * last.writes]);
+    let c = put_rows(out, b, &read.job.known[..read.job.counts.rows]);
     let d = put_events(out, c, read.job.probes);
     put_last(out, d, read.job.state, last)
 }
@@ -80,29 +79,15 @@ fn put_verdict(out: &mut [u8; MAX_REPORT], family: u8, verdict: Verdict) -> usiz
             writes,
             clocks,
         } => put_pass(out, a, place.0, count, writes, clocks),
-        Verdict::Fault(fault, place) => {
-            put_fault(out, a, u8::from(fault), place.0)
-        }
+        Verdict::Fault(fault, place) => { put_fault(out, a, u8::from(fault), place.0) }
     }
-}
-
-// A line for each of the first rows of a column.
-fn put_known(out: &mut [u8; MAX_REPORT], at: usize, known: &[u32], rows: usize) -> usize
-    requires { rows ≤ length known.now }
-    ensures { Stored out.old at (row_lines 0 (take rows known.now)) result out.new }
-{
-    put_rows(out, at, &known[..rows])
 }
 
 // How the run ended, and what STATUS shows then.
 fn put_last(out: &mut [u8; MAX_REPORT], at: usize, state: State, last: Progress) -> usize
     ensures { Stored out.old at (last_lines state last) result out.new }
 {
-    let slot = last.slot;
-    let flags = last.flags;
-    let place = last.place;
-    let mode = slot.mode;
-    let a = put_end(out, at, mode, place);
-    let after = machine_state::with_slot(state, executing_slot(state), slot, flags);
+    let a = put_end(out, at, last.slot.mode, last.place);
+    let after = machine_state::with_slot(state, executing_slot(state), last.slot, last.flags);
     put_status(out, a, status_of(after))
 }

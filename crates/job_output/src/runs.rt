@@ -7,12 +7,11 @@ ghost use Rattle.script.specs.Input.{max_ranges};
 ghost use Rattle.machine_state.specs.Sequencer.{state_from};
 ghost use Rattle.job_records.specs.Started.{script_in};
 ghost use Rattle.job_records.specs.Started.{executing as Started·executing};
-ghost use Rattle.job_report.specs.JobScript.{word_of, status_of};
+ghost use Rattle.job_report.specs.JobScript.{status_of};
 ghost use Rattle.job_output.specs.Inside.{RunsScript};
 
 use audit_verdict::Verdict;
 use event_log::Log;
-use host_registers::ReadAnswer;
 use isa::MmioAddress;
 use isa_fetch::CodeRam;
 use machine_state::{Sequencer, Slot, SlotName, State};
@@ -27,13 +26,10 @@ const STATUS: u32 = 0x001308;
 fn executing(sequencer: Sequencer) -> Slot
     ensures { (code marks : List ℕ) → result ≡ Started·executing (state_from sequencer code marks) }
 {
-    let a = sequencer.a;
-    let b = sequencer.b;
-    let mode = a.mode;
-    if machine_execution::is_executing(sequencer.family, SlotName::A, mode) {
-        a
+    if machine_execution::is_executing(sequencer.family, SlotName::A, sequencer.a.mode) {
+        sequencer.a
     } else {
-        b
+        sequencer.b
     }
 }
 
@@ -100,18 +96,9 @@ pub(crate) fn run_code<'a>(
     run_replay::run(scene, executing(sequencer), sequencer.flags, writes)
 }
 
-fn word_of(reading: ReadAnswer) -> u32
-    ensures { result ≡ word_of reading }
-{
-    match reading {
-        ReadAnswer::Word(word) => word,
-        ReadAnswer::Refused(_) => 0,
-    }
-}
-
 // The register STATUS.
 pub(crate) fn status_of(state: State) -> u32
     ensures { result ≡ status_of state }
 {
-    word_of(host_access::read_register(state, MmioAddress(STATUS)))
+    host_access::read_register(state, MmioAddress(STATUS)).unwrap_or(0)
 }

@@ -3,6 +3,8 @@ use Prim.Native.Nat.{ℕ, ◌+◌, ◌*◌, ◌≤◌, ◌<◌}
 use mathlib.Core.Path.{◌≡◌, refl, ap, sym, ◌∙◌}
 use mathlib.Core.Bool.{Bool, true, false, cond, not, or-true}
 use mathlib.Core.List.{List}
+use Rattle.std.specs.Prelude.{Result, Ok, Err}
+use Rattle.refusals.specs.declared.refusals.Inaccessible.{Inaccessible}
 use native.Mathlib.Omega.{arith}
 use lib.Dec.{ltb, eqb}
 use lib.ListN.{length, drop, set, replicate}
@@ -13,7 +15,6 @@ use Rattle.event_log.specs.Validity.{clocks_in_range}
 use Rattle.host_registers.specs.Access.{blank_state, write_of}
 use Rattle.host_registers.specs.Promises.{outcome_number, Unmoved, WritesInPlace}
 use Rattle.host_registers.specs.declared.access.Access.{Access}
-use Rattle.host_registers.specs.declared.access.Outcome.{Outcome}
 use Rattle.machine_state.specs.Sequencer.{sequencer_of, state_from}
 use Rattle.machine_state.specs.declared.sequencer.Sequencer.{Sequencer}
 use Rattle.machine_state.specs.declared.state.State.{State}
@@ -196,9 +197,9 @@ unfolding state_after blank_state
 family_stored rest s is known e = rw (e, is, known)
 
 -- a refused write leaves the state as it is
-unmoved_as : (s t : State) (outcome : Outcome) → Unmoved s t outcome → (outcome_number outcome ≡ 0 → ⊥) → t ≡ s
-unmoved_as s t Outcome.Done u h = absurd (h refl)
-unmoved_as s t (Outcome.Refused why) u h = u
+unmoved_as : (s t : State) (outcome : Result Unit Inaccessible) → Unmoved s t outcome → (outcome_number outcome ≡ 0 → ⊥) → t ≡ s
+unmoved_as s t (Ok tt) u h = absurd (h refl)
+unmoved_as s t (Err why) u h = u
 
 -- the numbers of the listing that a host write can have
 abbrev pub write_tests : ℕ → ℕ

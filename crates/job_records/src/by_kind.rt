@@ -13,10 +13,10 @@ use crate::contents::Counts;
 use crate::kinds::{END, FAMILY, HOST_WRITE, RANGE, ROW};
 use crate::listing::{shape_number, when};
 use crate::numbers::{long_in, word_in};
-use host_registers::Outcome;
 use isa::MmioAddress;
 use machine_state::Sequencer;
 use probe_captures::{Masks, after_row, row_known, row_values};
+use refusals::Inaccessible;
 
 // What a record that makes or changes the state left of it, beside the code RAM.
 #[derive(Clone, Copy)]
@@ -84,12 +84,12 @@ pub(crate) fn read_range(rest: &[u8], counts: Counts, bounds: &mut [u32; 128]) -
     0
 }
 
-fn outcome_number(outcome: Outcome) -> u8
+fn outcome_number(outcome: Result<(), Inaccessible>) -> u8
     ensures { result ≡ outcome_number outcome }
 {
     match outcome {
-        Outcome::Done => 0,
-        Outcome::Refused(why) => u8::from(why),
+        Ok(()) => 0,
+        Err(why) => u8::from(why),
     }
 }
 
@@ -111,12 +111,10 @@ pub(crate) fn read_write(
     }
     let address = MmioAddress(word_in(rest, 1));
     let written = host_access::write(sequencer, address, word_in(rest, 5), code, marks);
-    let outcome = written.outcome;
-    let after = written.sequencer;
-    let why = outcome_number(outcome);
+    let why = outcome_number(written.outcome);
     StateRead {
         number: when(why == 27, 27, when(why == 28, 28, 0)),
-        sequencer: after,
+        sequencer: written.sequencer,
     }
 }
 

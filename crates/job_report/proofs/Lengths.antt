@@ -1,12 +1,11 @@
 -- How long the lines of a report can be. Assumes nothing.
 use Prim.Native.Nat.{ℕ, zero, suc, ◌+◌, ◌*◌, ◌/◌, ◌%◌, ◌≤◌}
 use mathlib.Core.Path.{◌≡◌}
-use mathlib.Core.Bool.{Bool, true, false, cond}
 use mathlib.Core.List.{List, [], ◌∷◌}
 use native.Mathlib.Omega.{arith}
 use lib.Count.{ones_in}
 use lib.Dec.{eqb}
-use lib.Ieee.{Float}
+use Rattle.std.specs.Prelude.{Option, None, Some}
 use lib.ListN.{length, length-append, length-take}
 use Rattle.families.proofs.Tests.{cond_elim}
 use Rattle.event_log.specs.Coverage.{reading_count, lowest_zero, first_missing}
@@ -21,13 +20,13 @@ use Rattle.job_records.specs.Started.{Started}
 use Rattle.job_records.specs.declared.contents.Job.{Job}
 use Rattle.probe_captures.specs.Masks.{has_event}
 use Rattle.probe_captures.specs.declared.extents.Extent.{Extent}
+use Rattle.probe_captures.specs.declared.extents.Extremes.{Extremes}
 use Rattle.probe_floats.specs.Pattern.{pattern_of}
 use Rattle.job_text.proofs.DecimalLaws.{within, short}
 use Rattle.job_text.proofs.HexLaws.{eight}
 use Rattle.job_text.specs.Digits.{decimal_text, hex_word}
 use Rattle.job_report.specs.Lines.{named, hex_named, refused_line, family_line, fault_line, pass_line}
-use Rattle.job_report.specs.Lines.{write_line, write_lines, row_line, row_lines, event_line, gated_line, event_lines, ending_text, end_line, status_line}
-use Rattle.job_report.specs.Words.{none_text}
+use Rattle.job_report.specs.Lines.{write_line, write_lines, row_line, row_lines, extremes_named, event_line, gated_line, event_lines, ending_text, end_line, status_line}
 use Rattle.job_report.specs.Report.{run_lines, verdict_lines, job_lines}
 use Rattle.job_report.specs.Promises.{max_report}
 use Rattle.run.specs.Replay.{ending_of}
@@ -101,15 +100,13 @@ rows_length : (i : ℕ) (known : List ℕ) → length (row_lines i known) ≤ 43
 rows_length i [] = omega arith
 rows_length i (k ∷ known) = omega (arith, length-append (row_line i k) (row_lines (i + 1) known), row_length i k, rows_length (i + 1) known)
 
-volts_length : (came : Bool) (volts : Float) → length (cond came (hex_word (pattern_of volts)) none_text) ≤ 8
-volts_length true volts = omega (arith, eight (pattern_of volts))
-volts_length false volts = omega arith
+extremes_length : (x : Option Extremes) → length (extremes_named x) ≤ 33
+extremes_length None = omega arith
+extremes_length (Some x) = simp length-append (omega (arith, eight (pattern_of x.least), eight (pattern_of x.greatest)))
 
 event_length : (event : ℕ) (x : Extent) → length (event_line event x) ≤ 89
 unfolding event_line
-event_length event x =
-    simp length-append
-    (omega (arith, short event, volts_length x.came x.least, volts_length x.came x.greatest, short x.between))
+event_length event x = simp length-append (omega (arith, short event, extremes_length x.extremes, short x.between))
 
 events_length : (gated event : ℕ) (extents : List Extent) → length (event_lines gated event extents) ≤ 89 * length extents
 events_length gated event [] = omega arith

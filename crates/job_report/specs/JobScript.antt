@@ -1,9 +1,9 @@
 -- The script that a job starts, and its run (01, "A job, and one report whole" and "Demand 3's words").
 use Rattle.std.specs.Prelude.{ℕ}
+use Rattle.std.specs.Result.{result_unwrap_or}
 use Rattle.event_log.specs.Log.{log_of}
 use Rattle.machine_state.specs.declared.state.State.{State}
 use Rattle.host_registers.specs.Access.{read_of}
-use Rattle.host_registers.specs.declared.access.ReadAnswer.{ReadAnswer}
 use Rattle.machine_execution.specs.Execution.{executing_slot}
 use Rattle.audit_verdict.specs.Auditor.{audit_of}
 use Rattle.audit_verdict.specs.declared.verdicts.Verdict.{Verdict}
@@ -30,11 +30,6 @@ job_run j = full_slot_run (job_scene j) (executing j.state) j.state.flags
 abbrev pub step_run : Job → Run
 step_run j = full_run (executing_slot j.state) (log_of (clocks_of j) (known_of j) (values_of j)) j.state
 
--- the word that was read
-abbrev pub word_of : ReadAnswer → ℕ
-word_of (ReadAnswer.Word word) = word
-word_of (ReadAnswer.Refused why) = 0
-
--- the register STATUS
+-- the register STATUS, 0 where it cannot be read
 unfoldable pub status_of : State → ℕ
-status_of s = word_of (read_of s (record { 0 = 0x001308 }))
+status_of s = result_unwrap_or (read_of s (record { 0 = 0x001308 })) 0

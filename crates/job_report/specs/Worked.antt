@@ -1,9 +1,8 @@
 -- Worked jobs and their reports, from the bytes on, as closed theorems (01, "A job, and one report whole"). The same jobs stand in jobs/, as hex text.
-use Rattle.std.specs.Prelude.{ℕ, ◌≡◌, true, false, List, [], ◌∷◌, ◌++◌}
+use Rattle.std.specs.Prelude.{ℕ, ◌≡◌, true, false, List, [], ◌∷◌, ◌++◌, Ok}
 use Rattle.machine_flags.specs.Flags.{paused_of}
 use Rattle.machine_state.specs.declared.state.State.{State}
 use Rattle.host_registers.specs.Access.{read_of}
-use Rattle.host_registers.specs.declared.access.ReadAnswer.{ReadAnswer}
 use Rattle.job_records.specs.Reader.{job_read_of}
 use Rattle.job_records.specs.declared.contents.Job.{Job}
 use Rattle.job_report.specs.Words.{codes_of}
@@ -247,7 +246,7 @@ pub record Worked : Type 0 where
   pub capture_left : report_of capture_left_job ≡ codes_of "refused 33 at 27\n"
   -- no report tells the flags: memory is paused when slot B starts and not when it is done, and FLAGS then read so
   pub paused : (paused_of 2 (job_in slot_b_job).state.flags ≡ true) × (paused_of 2 (state_left slot_b_job).flags ≡ false)
-  pub flags_0 : read_of (state_left slot_b_job) (record { 0 = 0x001310 }) ≡ ReadAnswer.Word 0x00050000
-  pub flags_1 : read_of (state_left slot_b_job) (record { 0 = 0x001314 }) ≡ ReadAnswer.Word 0x00000001
+  pub flags_0 : read_of (state_left slot_b_job) (record { 0 = 0x001310 }) ≡ Ok 0x00050000
+  pub flags_1 : read_of (state_left slot_b_job) (record { 0 = 0x001314 }) ≡ Ok 0x00000001
   -- and no report tells a hang, since its script does not pass
   pub hangs : step_lines (job_in unknown_opcode_job) ≡ unknown_opcode_steps

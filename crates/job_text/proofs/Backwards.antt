@@ -1,17 +1,14 @@
 -- An array that is filled from its end to its start.
-use mathlib.Core.Path.{◌≡◌, ap, ◌∙◌}
-use mathlib.Core.List.{List, ◌∷◌}
-use Prim.Native.Nat.{ℕ, suc, ◌-◌, ◌<◌}
-use native.Mathlib.Nat.{le_refl}
-use native.Mathlib.Omega.{arith}
-use lib.ListN.{length, drop, set, length-set}
-use lib.Seq.{drop-cons, drop-set-lt, get_or-set_same}
+use Rattle.std.proofs.Common.{◌≡◌, ℕ, suc, ◌+◌, ◌-◌, ◌<◌, ◌≤◌, List, [], ◌∷◌, ◌++◌, length, drop, set, arith, append_assoc}
+use Rattle.std.proofs.lemmas.List.{drop-set}
 
 pub less : (j : ℕ) → suc j - 1 ≡ j
 less j = omega arith
 
-pub stored : (text : List ℕ) (j v : ℕ) → j < length text → drop j (set text j v) ≡ v ∷ drop (suc j) text
-stored text j v h =
-    drop-cons (set text j v) j 0 (simp length-set (omega arith))
-    ∙ ap (λ (x : ℕ). x ∷ drop (suc j) (set text j v)) (get_or-set_same text j v 0 h)
-    ∙ ap (λ (l : List ℕ). v ∷ l) (drop-set-lt (suc j) text j v (le_refl (suc j)))
+-- an element stored in front of those that stand
+pub stored : (text front : List ℕ) (first v : ℕ) → 0 < first → first ≤ length text
+    → front ++ drop (first - 1) (set text (first - 1) v) ≡ (front ++ (v ∷ [])) ++ drop first text
+stored text front first v p h =
+    let here : first - 1 + 1 ≡ first = omega arith in
+    let behind = drop-set text (first - 1) v (omega arith) in
+    simp (append_assoc, behind, here)

@@ -1,7 +1,7 @@
 -- Laws of decimal digits: how they are made from the last to the first, how many there are, and what they are read as.
 use mathlib.Core.Path.{◌≡◌, refl, ap, sym, ◌∙◌, subst}
 use mathlib.Core.Bool.{Bool, true, false, cond}
-use mathlib.Core.List.{List, [], ◌∷◌, ◌++◌, append_assoc}
+use mathlib.Core.List.{List, [], ◌∷◌, ◌++◌}
 use Prim.Native.Nat.{ℕ, zero, suc, ◌+◌, ◌-◌, ◌*◌, ◌/◌, ◌%◌, ◌^◌, ◌≤◌, ◌<◌}
 use native.Mathlib.Nat.{pow-suc, div-lt_iff_lt-mul}
 use native.Mathlib.Omega.{arith}
@@ -41,28 +41,25 @@ pub next_digit : (text : List ℕ) (first rest : ℕ)
     → first ≤ length text
     → 10 ≤ rest
     → decimal_in (first - 1) (rest / 10) ++ drop (first - 1) (set text (first - 1) (digit (rest % 10))) ≡ decimal_in first rest ++ drop first text
-next_digit text zero rest p h k = absurd (let z : ⊥ = omega arith in z)
+next_digit text zero rest p h k = absurd (omega arith)
 next_digit text (suc j) rest p h k =
-    ap (λ (m : ℕ). decimal_in m (rest / 10) ++ drop m (set text m (digit (rest % 10)))) (less j)
-    ∙ ap (λ (l : List ℕ). decimal_in j (rest / 10) ++ l) (stored text j (digit (rest % 10)) (omega arith))
-    ∙ sym (append_assoc (decimal_in j (rest / 10)) (digit (rest % 10) ∷ []) (drop (suc j) text))
-    ∙ ap (λ (l : List ℕ). l ++ drop (suc j) text) (sym (more_digits j rest k))
+    stored text (decimal_in (suc j - 1) (rest / 10)) (suc j) (digit (rest % 10)) p h
+    ∙ rw (less j, more_digits j rest k) refl
 
 pub end : (text : List ℕ) (first rest : ℕ)
     → 0 < first
     → first ≤ length text
     → rest < 10
-    → drop (first - 1) (set text (first - 1) (digit rest)) ≡ decimal_in first rest ++ drop first text
-end text zero rest p h k = absurd (let z : ⊥ = omega arith in z)
+    → drop (first - 1) (set text (first - 1) (digit (rest % 10))) ≡ decimal_in first rest ++ drop first text
+end text zero rest p h k = absurd (omega arith)
 end text (suc j) rest p h k =
-    ap (λ (m : ℕ). drop m (set text m (digit rest))) (less j)
-    ∙ stored text j (digit rest) (omega arith)
-    ∙ ap (λ (l : List ℕ). l ++ drop (suc j) text) (sym (last_digit j rest k))
+    let same : rest % 10 ≡ rest = omega arith in
+    stored text [] (suc j) (digit (rest % 10)) p h ∙ rw (same, last_digit j rest k) refl
 
 -- there is room for the digits still to come
 pub fewer_digits : (first rest : ℕ) → rest < 10 ^ first → 10 ≤ rest → (0 < first - 1) × (rest / 10 < 10 ^ (first - 1))
-fewer_digits zero rest h k = absurd (let z : ⊥ = omega arith in z)
-fewer_digits (suc zero) rest h k = absurd (let z : ⊥ = omega arith in z)
+fewer_digits zero rest h k = absurd (omega arith)
+fewer_digits (suc zero) rest h k = absurd (omega arith)
 fewer_digits (suc (suc j)) rest h k =
     (omega arith, subst (λ (m : ℕ). rest / 10 < 10 ^ m) (sym (less (suc j))) (tenth (suc j) rest h))
 
@@ -71,7 +68,7 @@ fewer_digits (suc (suc j)) rest h k =
 within_in : (most n places : ℕ) → 0 < places → n < 10 ^ places → length (decimal_in most n) ≤ places
 unfolding decimal_in
 within_in zero n places p h = omega arith
-within_in (suc most) n zero p h = absurd (let z : ⊥ = omega arith in z)
+within_in (suc most) n zero p h = absurd (omega arith)
 within_in (suc most) n (suc zero) p h = omega (arith, ap length (last_digit most n h))
 within_in (suc most) n (suc (suc k)) p h =
     digits_elim (λ (l : List ℕ). length l ≤ suc (suc k)) most n (λ _. omega arith)

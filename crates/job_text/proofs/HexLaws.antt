@@ -1,6 +1,6 @@
 -- Laws of hex words: what the digits are read as, how they are made from the last to the first, and how many there are.
-use mathlib.Core.Path.{◌≡◌, refl, ap, sym, subst, ◌∙◌}
-use mathlib.Core.List.{List, [], ◌∷◌, ◌++◌, append_assoc}
+use mathlib.Core.Path.{◌≡◌, refl, ap, subst, ◌∙◌}
+use mathlib.Core.List.{List, [], ◌∷◌, ◌++◌}
 use Prim.Native.Nat.{ℕ, zero, suc, ◌+◌, ◌-◌, ◌*◌, ◌/◌, ◌%◌, ◌^◌, ◌≤◌, ◌<◌}
 use native.Mathlib.Nat.{pow-suc, div-lt_iff_lt-mul}
 use native.Mathlib.Omega.{arith}
@@ -49,17 +49,16 @@ pub next_digit : (text : List ℕ) (first rest : ℕ)
     → first ≤ length text
     → hex_in (first - 1) (rest / 16) ++ drop (first - 1) (set text (first - 1) (hex_digit rest)) ≡ hex_in first rest ++ drop first text
 unfolding hex_in
-next_digit text zero rest p h = absurd (let z : ⊥ = omega arith in z)
+next_digit text zero rest p h = absurd (omega arith)
 next_digit text (suc j) rest p h =
-    ap (λ (m : ℕ). hex_in m (rest / 16) ++ drop m (set text m (hex_digit rest))) (less j)
-    ∙ ap (λ (l : List ℕ). hex_in j (rest / 16) ++ l) (stored text j (hex_digit rest) (omega arith))
-    ∙ sym (append_assoc (hex_in j (rest / 16)) (hex_digit rest ∷ []) (drop (suc j) text))
+    stored text (hex_in (suc j - 1) (rest / 16)) (suc j) (hex_digit rest) p h
+    ∙ ap (λ (m : ℕ). (hex_in m (rest / 16) ++ (hex_digit rest ∷ [])) ++ drop (suc j) text) (less j)
 
 -- all digits stand in the array
 pub end : (text : List ℕ) (first rest : ℕ) → first ≤ 0 → text ≡ hex_in first rest ++ drop first text
 unfolding hex_in
 end text zero rest h = refl
-end text (suc j) rest h = absurd (let z : ⊥ = omega arith in z)
+end text (suc j) rest h = absurd (omega arith)
 
 length_in : (width n : ℕ) → length (hex_in width n) ≡ width
 unfolding hex_in

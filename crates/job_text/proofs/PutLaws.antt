@@ -1,13 +1,15 @@
 -- Laws of texts in a buffer. `then` and `whole` are for callers: texts put one after the other are one text.
-use mathlib.Core.Path.{◌≡◌, ap, sym, ◌∙◌}
+use mathlib.Core.Path.{◌≡◌, refl, ap, sym, ◌∙◌}
 use mathlib.Core.List.{List, [], ◌++◌, append_assoc, append-nil}
-use Prim.Native.Nat.{ℕ, ◌+◌, ◌≤◌, ◌<◌}
+use Prim.Native.Nat.{ℕ, ◌+◌, ◌-◌, ◌≤◌, ◌<◌}
 use native.Mathlib.Nat.{add_assoc, add-zero}
 use native.Mathlib.Decide.{dec_lt}
 use native.Mathlib.Omega.{arith}
 use lib.ListN.{length, take, drop, length-append, length-drop, take-append-drop}
 use lib.Seq.{paste, take-length, take_at, drop_at, length-take-le, drop-drop}
 use borrow.Author.Tests.{le-leb, lt-leb}
+use borrow.Rule.Slice.PartMut.{put_mid}
+use Rattle.std.proofs.lemmas.Slice.{put_mid-paste}
 use Rattle.job_text.specs.Put.{put, after, Stored, Puts}
 
 pub put_room : (d : List ℕ) (at : ℕ) (t : List ℕ) → at + length t ≤ length d → put d at t ≡ take at d ++ t ++ drop (at + length t) d
@@ -26,6 +28,10 @@ full d at t h = (rw (lt-leb (at + length t) (length d) h), rw (lt-leb (at + leng
 -- all of a text pasted is the text put
 pub put_paste : (d : List ℕ) (at : ℕ) (t : List ℕ) → at + length t ≤ length d → paste d at t (length t) ≡ put d at t
 put_paste d at t h = ap (λ (u : List ℕ). take at d ++ u ++ drop (at + length t) d) (take-length t) ∙ sym (put_room d at t h)
+
+-- a text copied over its part of the buffer is the text put
+pub copied : (d : List ℕ) (at : ℕ) (t u : List ℕ) → u ≡ t → at + length t ≤ length d → put_mid at (at + length t - at) d u ≡ put d at t
+copied d at t u e h = put_mid-paste at (at + length t - at) d u t (length t) e (omega arith) refl ∙ put_paste d at t h
 
 -- a text that has room changes no length
 pub length_room : (d : List ℕ) (at : ℕ) (t : List ℕ) → at + length t ≤ length d → length (put d at t) ≡ length d

@@ -7,18 +7,12 @@ fn store(out: &mut [u8], at: usize, text: &[u8]) -> usize
     ensures value { result ≡ after out.old at text.now }
     ensures out_after { out.new ≡ put out.old at text.now }
 {
-    if out.len() < at {
+    if out.len() < at || out.len() - at < text.len() {
         return at;
     }
-    if out.len() - at < text.len() {
-        return at;
-    }
-    let mut i = 0;
-    while i < text.len() {
-        out[at + i] = text[i];
-        i += 1;
-    }
-    at + text.len()
+    let end = at + text.len();
+    out[at..end].copy_from_slice(text);
+    end
 }
 
 // Puts the text at a place of the buffer, and answers the place after it.

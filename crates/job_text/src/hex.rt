@@ -12,7 +12,11 @@ fn hex_digit(n: u32) -> u8
     ensures { result ≡ hex_digit n }
 {
     let digit = (n % 16) as u8;
-    if digit < 10 { 48 + digit } else { 87 + digit }
+    if digit < 10 {
+        b'0' + digit
+    } else {
+        b'a' + (digit - 10)
+    }
 }
 
 // Puts the word's eight digits at a place of the buffer, and answers the place after them.
@@ -20,12 +24,10 @@ pub fn put_hex(out: &mut [u8; 65536], at: usize, n: u32) -> usize
     ensures { PutsHex out.old at n result out.new }
 {
     let mut text = [0u8; WIDTH];
-    let mut first = WIDTH;
     let mut rest = n;
-    while 0 < first {
-        first -= 1;
-        text[first] = hex_digit(rest);
-        rest = rest / 16;
+    for place in (0..WIDTH).rev() {
+        text[place] = hex_digit(rest);
+        rest /= 16;
     }
     put_bytes(out, at, &text)
 }

@@ -18,9 +18,7 @@ pub fn is_executing(family: u8, name: SlotName, mode: Mode) -> bool
 pub fn executes(state: State, name: SlotName) -> bool
     ensures { result ≡ Execution·executes state name }
 {
-    let slot = slot_of(state, name);
-    let mode = slot.mode;
-    is_executing(state.family, name, mode)
+    is_executing(state.family, name, slot_of(state, name).mode)
 }
 
 // Whether a slot of the family executes, where A and B are in these modes.
@@ -33,11 +31,7 @@ pub fn some_executes(family: u8, a: Mode, b: Mode) -> bool
 pub fn some_slot_executes(state: State) -> bool
     ensures { result ≡ some_slot_executes state }
 {
-    let a = state.a;
-    let b = state.b;
-    let mode_a = a.mode;
-    let mode_b = b.mode;
-    some_executes(state.family, mode_a, mode_b)
+    some_executes(state.family, state.a.mode, state.b.mode)
 }
 
 // The slot that executes, where one does.

@@ -1,6 +1,6 @@
 -- FLAGS_0 and FLAGS_1, bit by bit. Assumes nothing.
 use Prim.Native.Nat.{ℕ, ◌+◌, ◌-◌, ◌/◌, ◌%◌, ◌^◌, ◌<◌}
-use mathlib.Core.Path.{◌≡◌, sym, ap, ◌∙◌}
+use mathlib.Core.Path.{◌≡◌, refl, sym, ap, ◌∙◌}
 use native.Mathlib.Omega.{arith}
 use lib.Pow.{shr-shr, field, mod-mod-pow}
 use Rattle.machine_flags.specs.Flags.{flags_word0, flags_word1, flags_from_words, ShowsFlags, TellsWord0, TellsWord1, MadeOf}
@@ -45,12 +45,5 @@ tells_0 flags word e = record { answered = e; shows = shows_0 flags word (omega 
 pub tells_1 : (flags : Flags) (word : ℕ) → flags.values < 2 ^ 32 → flags.enables < 2 ^ 32 → word ≡ flags_word1 flags → TellsWord1 flags word
 tells_1 flags word v w e = record { answered = e; shows = shows_1 flags word (omega arith) (omega arith) }
 
-pub made_of : (word0 word1 : ℕ) (flags : Flags) → word0 < 2 ^ 32 → word1 < 2 ^ 32 → flags ≡ flags_from_words word0 word1 → MadeOf word0 word1 flags
-made_of word0 word1 flags v w e =
-    let values : flags.values ≡ (flags_from_words word0 word1).values = ap (λ (f : Flags). f.values) e in
-    let enables : flags.enables ≡ (flags_from_words word0 word1).enables = ap (λ (f : Flags). f.enables) e in
-    record {
-      answered = e;
-      shows0 = shows_0 flags word0 (omega arith) (omega arith);
-      shows1 = shows_1 flags word1 (omega arith) (omega arith);
-    }
+pub made_of : (word0 word1 : ℕ) → word0 < 2 ^ 32 → word1 < 2 ^ 32 → MadeOf word0 word1 (flags_from_words word0 word1)
+made_of word0 word1 v w = record { answered = refl; shows0 = shows_0 _ word0 (omega arith) (omega arith); shows1 = shows_1 _ word1 (omega arith) (omega arith) }

@@ -1,5 +1,5 @@
 // One step: what a fetched instruction does to its slot, the flags and the place in the log.
-ghost use Rattle.std.specs.Prelude.{◌≡◌, cond};
+ghost use Rattle.std.specs.Prelude.{◌≡◌};
 ghost use Rattle.machine_slot.specs.SlotStep.{mode_after, ip_after, addr_after, data_after, flags_after, effect_of, perform_at, same_slot_step, unfetched_at};
 
 use event_log::Place;
@@ -35,29 +35,13 @@ pub struct SlotStep {
     pub searched: u64,
 }
 
-fn held_unless(finished: bool) -> Mode
-    ensures { result ≡ cond finished Mode.Running Mode.Waiting }
-{
-    if finished {
-        Mode::Running
-    } else {
-        Mode::Waiting
-    }
-}
-
-fn blocked_unless(enable: bool) -> Mode
-    ensures { result ≡ cond enable Mode.Running Mode.Blocked }
-{
-    if enable { Mode::Running } else { Mode::Blocked }
-}
-
+// An unfinished wait holds the slot, and with HWSQ_ENABLE 0 a poke blocks it.
 fn mode_after(action: Action, enable: bool, finished: bool) -> Mode
     ensures { result ≡ mode_after action enable finished }
 {
     match action {
-        Action::Wait(_) => held_unless(finished),
-        Action::Ewait(_, _) => held_unless(finished),
-        Action::Poke(_, _) => blocked_unless(enable),
+        Action::Wait(_) | Action::Ewait(_, _) if !finished => Mode::Waiting,
+        Action::Poke(_, _) if !enable => Mode::Blocked,
         Action::Exit => Mode::Idle,
         _ => Mode::Running,
     }
@@ -100,21 +84,13 @@ fn flags_after(action: Action, flags: Flags) -> Flags
 }
 
 // A poke with HWSQ_ENABLE 1 writes.
-fn poke_effect(enable: bool, address: u32, word: u32) -> Effect
-    ensures { result ≡ cond enable (Effect.Wrote (record { 0 = address }) word) Effect.Done }
-{
-    if enable {
-        Effect::Wrote(MmioAddress(address), word)
-    } else {
-        Effect::Done
-    }
-}
-
 fn effect_of(action: Action, enable: bool, addr: u32, word: u32) -> Effect
     ensures { result ≡ effect_of action enable addr word }
 {
     match action {
-        Action::Poke(part, operand) => poke_effect(enable, merge(part, addr, operand), word),
+        Action::Poke(part, operand) if enable => {
+            Effect::Wrote(MmioAddress(merge(part, addr, operand)), word)
+        }
         _ => Effect::Done,
     }
 }
@@ -130,24 +106,16 @@ pub fn perform(
 ) -> SlotStep
     ensures { result ≡ perform_at enable slot flags action next.0 elapsed }
 {
-    let ip = slot.ip.0;
-    let addr = slot.addr.0;
-    let word = slot.data;
-    let place = elapsed.place;
-    let mode = mode_after(action, enable, elapsed.finished);
-    let after = Slot {
-        mode,
-        ip: CodeAddress(ip_after(action, ip, next.0)),
-        addr: MmioAddress(addr_after(action, addr)),
-        data: data_after(action, word),
-    };
-    let flags_now = flags_after(action, flags);
-    let effect = effect_of(action, enable, addr, word);
     SlotStep {
-        slot: after,
-        flags: flags_now,
-        place,
-        effect,
+        slot: Slot {
+            mode: mode_after(action, enable, elapsed.finished),
+            ip: CodeAddress(ip_after(action, slot.ip.0, next.0)),
+            addr: MmioAddress(addr_after(action, slot.addr.0)),
+            data: data_after(action, slot.data),
+        },
+        flags: flags_after(action, flags),
+        place: elapsed.place,
+        effect: effect_of(action, enable, slot.addr.0, slot.data),
         waited: elapsed.waited,
         searched: elapsed.searched,
     }
@@ -167,23 +135,20 @@ pub fn unfetched(
 {
     match why {
         Unreadable::Unknown => {
-            let addr = slot.addr;
+            let mode = if families::unknown_hangs(family) {
+                Mode::Hung
+            } else {
+                Mode::Running
+            };
             let after = Slot {
-                mode: hung_if(families::unknown_hangs(family)),
+                mode,
                 ip: next,
-                addr,
-                data: slot.data,
+                ..slot
             };
             unmoved(after, flags, place, Effect::Unknown)
         }
         _ => unmoved(slot, flags, place, Effect::Stopped(why)),
     }
-}
-
-fn hung_if(hangs: bool) -> Mode
-    ensures { result ≡ cond hangs Mode.Hung Mode.Running }
-{
-    if hangs { Mode::Hung } else { Mode::Running }
 }
 
 // A step that takes no time and leaves flags and place alone.

@@ -21,18 +21,15 @@ pub struct Sequencer {
 pub fn sequencer_of(state: State) -> Sequencer
     ensures { result ≡ sequencer_of state }
 {
-    let flags = state.flags;
-    let a = state.a;
-    let b = state.b;
     Sequencer {
         family: state.family,
-        flags,
+        flags: state.flags,
         enable: state.enable,
         override_mode: state.override_mode,
         entries: state.entries,
         entries_high: state.entries_high,
-        a,
-        b,
+        a: state.a,
+        b: state.b,
     }
 }
 
@@ -44,19 +41,16 @@ pub fn state_from(
 ) -> State
     ensures { result ≡ state_from sequencer code marks }
 {
-    let flags = sequencer.flags;
-    let a = sequencer.a;
-    let b = sequencer.b;
     State {
         family: sequencer.family,
         code,
         marks,
-        flags,
+        flags: sequencer.flags,
         enable: sequencer.enable,
         override_mode: sequencer.override_mode,
         entries: sequencer.entries,
         entries_high: sequencer.entries_high,
-        a,
-        b,
+        a: sequencer.a,
+        b: sequencer.b,
     }
 }

@@ -4,14 +4,14 @@ ghost use Rattle.machine_state.specs.Slot.{has_slot, is_running, is_idle};
 
 use isa::{CodeAddress, MmioAddress};
 
-#[derive(Clone, Copy)]
+#[derive(Clone, Copy, PartialEq, Eq, Debug)]
 pub enum SlotName {
     A,
     B,
 }
 
 // What a slot does. It executes unless idle.
-#[derive(Clone, Copy)]
+#[derive(Clone, Copy, PartialEq, Eq, Debug)]
 pub enum Mode {
     Idle,
     Running,
@@ -44,23 +44,11 @@ pub fn has_slot(family: u8, name: SlotName) -> bool
 pub fn is_running(mode: Mode) -> bool
     ensures { result ≡ is_running mode }
 {
-    match mode {
-        Mode::Idle => false,
-        Mode::Running => true,
-        Mode::Waiting => false,
-        Mode::Blocked => false,
-        Mode::Hung => false,
-    }
+    mode == Mode::Running
 }
 
 pub fn is_idle(mode: Mode) -> bool
     ensures { result ≡ is_idle mode }
 {
-    match mode {
-        Mode::Idle => true,
-        Mode::Running => false,
-        Mode::Waiting => false,
-        Mode::Blocked => false,
-        Mode::Hung => false,
-    }
+    mode == Mode::Idle
 }

@@ -26,14 +26,8 @@ pub fn slot_of(state: State, name: SlotName) -> Slot
     ensures { result ≡ slot_of state name }
 {
     match name {
-        SlotName::A => {
-            let a = state.a;
-            a
-        }
-        SlotName::B => {
-            let b = state.b;
-            b
-        }
+        SlotName::A => state.a,
+        SlotName::B => state.b,
     }
 }
 
@@ -41,15 +35,16 @@ pub fn slot_of(state: State, name: SlotName) -> Slot
 pub fn with_slot(state: State, name: SlotName, slot: Slot, flags: Flags) -> State
     ensures { result ≡ with_slot state name slot flags }
 {
-    let mut next = state;
-    next.flags = flags;
     match name {
-        SlotName::A => {
-            next.a = slot;
-        }
-        SlotName::B => {
-            next.b = slot;
-        }
+        SlotName::A => State {
+            flags,
+            a: slot,
+            ..state
+        },
+        SlotName::B => State {
+            flags,
+            b: slot,
+            ..state
+        },
     }
-    next
 }

@@ -9,7 +9,7 @@ const SIGN: u32 = 0x8000_0000;
 // The positive infinity's pattern; those above it, the sign left out, are NaNs.
 const INFINITY_PATTERN: u32 = 0x7f80_0000;
 // The one pattern that is written for NaN.
-const NAN_PATTERN: u32 = 0x7fc0_0000;
+pub const NAN_PATTERN: u32 = 0x7fc0_0000;
 
 // The float that a pattern stands for. from_bits is not defined at a NaN's pattern, so NaN is made here.
 pub fn float_of(bits: u32) -> f32

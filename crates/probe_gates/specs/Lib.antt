@@ -1,3 +1,4 @@
+pub mod Kind
 pub mod Voltage
 pub mod Refusal
 pub mod Reading

@@ -1,6 +1,6 @@
 // From volts to a reading.
-ghost use Rattle.std.specs.Prelude.{◌≡◌, ◌&&◌};
-ghost use Rattle.std.specs.Float.Ieee.{lt};
+ghost use Rattle.std.specs.Prelude.{◌≡◌};
+ghost use Rattle.probe_gates.specs.Kind.{gate_of};
 ghost use Rattle.probe_gates.specs.Reading.{GateReads, IsBetween, at_levels};
 
 use probe_floats::is_finite;
@@ -14,7 +14,7 @@ pub enum Gate {
 }
 
 // What a probe says of its event. Missing is no reading, and not 0.
-#[derive(Clone, Copy)]
+#[derive(Clone, Copy, PartialEq, Eq, Debug)]
 pub enum Reading {
     Zero,
     One,
@@ -22,22 +22,32 @@ pub enum Reading {
 }
 
 impl Gate {
+    // 0 is normal and 1 inverted; any other number is a dead gate, whose levels are not looked at.
+    pub fn of_kind(kind: u8, low: f32, high: f32) -> Gate
+        ensures { result ≡ gate_of kind low high }
+    {
+        match kind {
+            0 => Gate::Normal { low, high },
+            1 => Gate::Inverted { low, high },
+            _ => Gate::Dead,
+        }
+    }
+
     // A dead gate, and volts that are NaN or infinite, are no reading.
     pub fn read(self, volts: f32) -> Reading
         ensures { GateReads self volts result }
     {
-        if is_finite(volts) {
-            match self {
-                Gate::Normal { low, high } => {
-                    at_levels(low, high, volts, Reading::Zero, Reading::One)
-                }
-                Gate::Inverted { low, high } => {
-                    at_levels(low, high, volts, Reading::One, Reading::Zero)
-                }
-                Gate::Dead => Reading::Missing,
+        if !is_finite(volts) {
+            return Reading::Missing;
+        }
+        match self {
+            Gate::Normal { low, high } => {
+                at_levels(low, high, volts, Reading::Zero, Reading::One)
             }
-        } else {
-            Reading::Missing
+            Gate::Inverted { low, high } => {
+                at_levels(low, high, volts, Reading::One, Reading::Zero)
+            }
+            Gate::Dead => Reading::Missing,
         }
     }
 
@@ -46,17 +56,12 @@ impl Gate {
         ensures { IsBetween self volts result }
     {
         match self {
-            Gate::Normal { low, high } => inside(low, high, volts),
-            Gate::Inverted { low, high } => inside(low, high, volts),
+            Gate::Normal { low, high } | Gate::Inverted { low, high } => {
+                low < volts && volts < high
+            }
             Gate::Dead => false,
         }
     }
-}
-
-fn inside(low: f32, high: f32, volts: f32) -> bool
-    ensures { result ≡ (lt low volts && lt volts high) }
-{
-    low < volts && volts < high
 }
 
 // At or below low, at or above high, or between.

@@ -7,4 +7,4 @@ mod sampling;
 
 pub use calibration::Calibration;
 pub use gate::{Gate, Reading};
-pub use sampling::{Sampled, sample, usable};
+pub use sampling::{Unusable, sample, usable};

@@ -1,66 +1,83 @@
 -- Ranges, one pair at a time, and marks. Assumes nothing.
-use Prim.Native.Nat.{ℕ, ◌+◌, ◌-◌, ◌*◌, ◌%◌, ◌≤◌, ◌<◌}
+use Prim.Native.Nat.{ℕ, ◌*◌, ◌%◌, ◌≤◌, ◌<◌}
 use mathlib.Core.Path.{◌≡◌, refl, sym, ap, ◌∙◌}
-use mathlib.Core.Bool.{Bool, true, false, cond, not, ◌&&◌, and-true, and-false, and_assoc}
+use mathlib.Core.Bool.{Bool, true, false, not, ◌&&◌, and-true, and-false, and_assoc}
 use mathlib.Core.List.{List, [], ◌∷◌}
-use native.Mathlib.Decide.{dec_lt}
-use native.Mathlib.Numerals.{add-one}
 use native.Mathlib.Omega.{arith}
-use borrow.Author.Tests.{le-leb, lt-leb, leb-true, ltb-true, ltb-false}
+use borrow.Author.Tests.{leb-true}
 use lib.Dec.{leb, ltb}
-use lib.ListN.{length, get_or, drop, drop_of_length-le}
-use lib.Seq.{drop-cons}
+use lib.ListN.{length, get_or}
+use Rattle.std.proofs.Common.{◌||◌, ◌++◌, max, length-append}
+use Rattle.std.proofs.lemmas.Grind.{common_steps}
+use Rattle.std.proofs.lemmas.Iterator.{YieldsList}
+use Rattle.std.specs.List.{fold, list_any}
+use Rattle.std.specs.Iterator.{AlwaysYields}
+use Rattle.std.specs.Slice.Iter.{chunks_exact_rest, chunks_exact_size, chunks_exact_steps}
+use Rattle.std.specs.declared.slice.ChunksExact.{ChunksExact}
+use Rattle.std.proofs.lemmas.Bool.Decides.{nat_tests}
 use Rattle.families.specs.Family.{within}
-use Rattle.families.proofs.Tests.{cond_elim, both_left, both_right}
+use Rattle.families.proofs.Tests.{both_left, both_right}
 use Rattle.script.specs.Input.{listed_in, ranges_paired, marks_plain, max_ranges, ranges_fit}
 
-pub drop_next : (l : List ℕ) (i : ℕ) → i < length l → drop i l ≡ get_or l i 0 ∷ drop (i + 1) l
-drop_next l i h = rw add-one (drop-cons l i 0 h)
+-- ---- ranges in pairs, as `chunks_exact(2)` takes them from a list
 
-module _ (ranges : List ℕ) (i : ℕ) where
-  pub drop_pair : i + 1 < length ranges → drop i ranges ≡ get_or ranges i 0 ∷ get_or ranges (i + 1) 0 ∷ drop (i + 2) ranges
-  drop_pair h =
-      let z : i + 1 + 1 ≡ i + 2 = omega arith in
-      drop_next ranges i (omega arith) ∙ ap (λ (l : List ℕ). get_or ranges i 0 ∷ l)
-      (drop_next ranges (i + 1) h ∙ ap (λ (n : ℕ). get_or ranges (i + 1) 0 ∷ drop n ranges) z)
-
-  alone : i < length ranges → length ranges - i < 2 → drop i ranges ≡ get_or ranges i 0 ∷ []
-  alone h l = drop_next ranges i h ∙ ap (λ (r : List ℕ). get_or ranges i 0 ∷ r) (drop_of_length-le ranges (let g : length ranges ≤ i + 1 = omega arith in g))
-
-  module _ (address : ℕ) where
-    pub listed_end : length ranges ≤ i → false ≡ listed_in (drop i ranges) address
-    listed_end h = rw (drop_of_length-le ranges h)
-
-    pub listed_alone : i < length ranges → length ranges - i < 2 → false ≡ listed_in (drop i ranges) address
-    listed_alone h l = rw (alone h l)
-
-    pub listed_here : i + 1 < length ranges → within (get_or ranges i 0) address (get_or ranges (i + 1) 0) ≡ true → true ≡ listed_in (drop i ranges) address
-    listed_here h t = rw (drop_pair h, t)
-
-    pub listed_next : i + 1 < length ranges → within (get_or ranges i 0) address (get_or ranges (i + 1) 0) ≡ false
-        → listed_in (drop (i + 2) ranges) address ≡ listed_in (drop i ranges) address
-    listed_next h t = rw (drop_pair h, t)
-
-  -- whether all are in order: none so far is crossed, and the rest are
-  module _ (crossed : Bool) where
-    pub paired_end : length ranges ≤ i → not crossed ≡ (not crossed && ranges_paired (drop i ranges))
-    paired_end h = rw (drop_of_length-le ranges h) (sym (and-true (not crossed)))
-
-    pub paired_next : i + 1 < length ranges
-        → (not (cond (leb (get_or ranges i 0) (get_or ranges (i + 1) 0)) crossed true) && ranges_paired (drop (i + 2) ranges))
-        ≡ (not crossed && ranges_paired (drop i ranges))
-    paired_next h = rw (drop_pair h) (by (leb (get_or ranges i 0) (get_or ranges (i + 1) 0)) crossed (ranges_paired (drop (i + 2) ranges)))
-      where
-        by : (ordered crossed later : Bool) → (not (cond ordered crossed true) && later) ≡ (not crossed && (ordered && later))
-        by true crossed later = refl
-        by false true later = refl
-        by false false later = refl
+-- none so far is crossed, nor is this one, and the rest are in order
+pub paired_next : (crossed : Bool) (pair ranges : List ℕ) → length pair ≡ 2
+    → (not (crossed || ltb (get_or pair 1 0) (get_or pair 0 0)) && ranges_paired ranges) ≡ (not crossed && ranges_paired (pair ++ ranges))
+paired_next crossed [] ranges h = absurd (omega arith)
+paired_next crossed (first ∷ []) ranges h = absurd (omega arith)
+paired_next crossed (first ∷ last ∷ []) ranges h = grind (arith, common_steps, nat_tests)
+paired_next crossed (first ∷ last ∷ more ∷ pair) ranges h = absurd (omega arith)
 
 -- an odd one has no last
 pub paired_odd : (ranges : List ℕ) → length ranges % 2 ≡ 1 → false ≡ ranges_paired ranges
 paired_odd [] h = absurd (omega (arith, h))
 paired_odd (first ∷ []) h = refl
 paired_odd (first ∷ last ∷ ranges) h = rw (sym (paired_odd ranges (omega (arith, h)))) (sym (and-false (leb first last)))
+
+-- what is left of whole pairs is none
+pub paired_few : (ranges : List ℕ) → length ranges < 2 → length ranges % 2 ≡ 0 → ranges_paired ranges ≡ true
+paired_few [] h e = refl
+paired_few (first ∷ []) h e = absurd (omega arith)
+paired_few (first ∷ last ∷ ranges) h e = absurd (omega arith)
+
+-- the list in pairs; a first without its last is left out
+abbrev pub pairs_of : List ℕ → List (List ℕ)
+pairs_of [] = []
+pairs_of (first ∷ []) = []
+pairs_of (first ∷ last ∷ ranges) = (first ∷ last ∷ []) ∷ pairs_of ranges
+
+-- a pair does not come of fewer than two, and of more it is the first two
+too_few : (ranges pair rest : List ℕ) → length ranges < 2 → length pair ≡ 2 → ranges ≡ pair ++ rest → ⊥
+too_few ranges pair rest h p e = omega (arith, ap length e, length-append {A = ℕ})
+
+parts : (first last : ℕ) (ranges pair rest : List ℕ) → length pair ≡ 2 → first ∷ last ∷ ranges ≡ pair ++ rest
+    → (pair ≡ first ∷ last ∷ []) × (rest ≡ ranges)
+parts first last ranges [] rest h e = absurd (omega arith)
+parts first last ranges (a ∷ []) rest h e = absurd (omega arith)
+parts first last ranges (a ∷ b ∷ []) rest h e = (cc, cc)
+parts first last ranges (a ∷ b ∷ c ∷ pair) rest h e = absurd (omega arith)
+
+-- the pairs come in order, and then none
+pairs_come : (ranges : List ℕ) (s : ChunksExact ℕ) → chunks_exact_rest s ≡ ranges → chunks_exact_size s ≡ 2
+    → AlwaysYields chunks_exact_steps (λ pair. pair.now) s (pairs_of ranges)
+pairs_come [] s e z = λ x j h. too_few [] x.now (chunks_exact_rest j) (omega arith) (h.1.1 ∙ z) (sym e ∙ h.1.0)
+pairs_come (first ∷ []) s e z = λ x j h. too_few (first ∷ []) x.now (chunks_exact_rest j) (omega arith) (h.1.1 ∙ z) (sym e ∙ h.1.0)
+pairs_come (first ∷ last ∷ ranges) s e z = (
+  λ j h. absurd (let few : length (chunks_exact_rest s) < 2 = omega (arith, h.1.0, z) in omega (arith, ap length e)),
+  λ x j h. let same = parts first last ranges x.now (chunks_exact_rest j) (h.1.1 ∙ z) (sym e ∙ h.1.0) in
+      (same.0, pairs_come ranges j same.1 (h.0 ∙ z)),
+)
+
+pub pairs_yield : (ranges : List ℕ) (s : ChunksExact ℕ) → chunks_exact_rest s ≡ ranges → chunks_exact_size s ≡ 2
+    → YieldsList chunks_exact_steps (λ pair. pair.now) s (pairs_of ranges)
+pairs_yield ranges s e z = record { runs = pairs_come ranges s e z }
+
+pub listed_pairs : (ranges : List ℕ) (address : ℕ)
+    → list_any (λ pair. within (get_or pair 0 0) address (get_or pair 1 0)) (pairs_of ranges) ≡ listed_in ranges address
+listed_pairs [] address = refl
+listed_pairs (first ∷ []) address = refl
+listed_pairs (first ∷ last ∷ ranges) address = ap (◌||◌ (within first address last)) (listed_pairs ranges address)
 
 -- ranges that fit: no more than there may be, and in pairs
 pub fit_few : (ranges : List ℕ) → ranges_fit ranges ≡ true → length ranges ≤ 2 * max_ranges
@@ -71,29 +88,11 @@ pub fit_paired : (ranges : List ℕ) → ranges_fit ranges ≡ true → ranges_p
 unfolding ranges_fit
 fit_paired ranges e = both_right (leb (length ranges) (2 * max_ranges)) (ranges_paired ranges) e
 
--- the larger of two is plain where both are
-larger_plain : (a b : ℕ) → leb (cond (ltb a b) b a) 1 ≡ (leb a 1 && leb b 1)
-larger_plain a b = cond_elim (λ (r : ℕ). leb r 1 ≡ (leb a 1 && leb b 1)) (ltb a b) second first
-  where
-    second : ltb a b ≡ true → leb b 1 ≡ (leb a 1 && leb b 1)
-    second t = elim (dec_lt 1 b) as (λ _. leb b 1 ≡ (leb a 1 && leb b 1)) [
-      | yes l ↦ rw (lt-leb b 1 l) (sym (and-false (leb a 1)))
-      | no l ↦ rw (le-leb a 1 (omega (arith, ltb-true a b t)))
-    ]
+-- ---- marks: the largest is plain where each is
 
-    first : ltb a b ≡ false → leb a 1 ≡ (leb a 1 && leb b 1)
-    first t = elim (dec_lt 1 a) as (λ _. leb a 1 ≡ (leb a 1 && leb b 1)) [
-      | yes l ↦ rw (lt-leb a 1 l) refl
-      | no l ↦ rw (le-leb a 1 (omega arith), le-leb b 1 (omega (arith, ltb-false a b t))) refl
-    ]
+plain_both : (a b : ℕ) → leb (max a b) 1 ≡ (leb a 1 && leb b 1)
+plain_both a b = grind (arith, common_steps, nat_tests)
 
--- marks, one at a time: the largest so far is plain, and the rest are
-module _ (marks : List ℕ) (i most : ℕ) where
-  pub plain_end : length marks ≤ i → leb most 1 ≡ (leb most 1 && marks_plain (drop i marks))
-  plain_end h = rw (drop_of_length-le marks h) (sym (and-true (leb most 1)))
-
-  pub plain_next : i < length marks
-      → (let m = get_or marks i 0 in leb (cond (ltb most m) m most) 1 && marks_plain (drop (i + 1) marks)) ≡ (leb most 1 && marks_plain (drop i marks))
-  plain_next h =
-      rw (drop_next marks i h, larger_plain most (get_or marks i 0))
-      (and_assoc (leb most 1) (leb (get_or marks i 0) 1) (marks_plain (drop (i + 1) marks)))
+pub plain_fold : (marks : List ℕ) (most : ℕ) → leb (fold (λ a x. max a x) most marks) 1 ≡ (leb most 1 && marks_plain marks)
+plain_fold [] most = sym (and-true (leb most 1))
+plain_fold (mark ∷ marks) most = plain_fold marks (max most mark) ∙ rw (plain_both most mark) (and_assoc (leb most 1) (leb mark 1) (marks_plain marks))

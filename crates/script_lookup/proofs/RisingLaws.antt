@@ -1,41 +1,45 @@
 -- Ranges that rise: the test's loop, and what it says of any two ranges. Assumes nothing.
 use Prim.Native.Nat.{ℕ, zero, suc, ◌+◌, ◌*◌, ◌≤◌, ◌<◌}
 use mathlib.Core.Path.{◌≡◌, refl, sym, ap, ◌∙◌}
-use mathlib.Core.Bool.{Bool, true, false, cond, not, ◌&&◌, and-true, true≢false}
+use mathlib.Core.Bool.{Bool, true, false, not, ◌&&◌, and-true, true≢false}
 use mathlib.Core.List.{List, [], ◌∷◌}
 use native.Mathlib.Omega.{arith}
 use lib.Dec.{leb, ltb}
-use lib.ListN.{length, get_or, drop, length-drop}
+use lib.ListN.{length, get_or}
 use borrow.Author.Tests.{leb-true, ltb-true, ltb-false}
 use Rattle.families.proofs.Tests.{both_left, both_right}
 use Rattle.script.specs.Input.{ranges_paired}
-use Rattle.script.proofs.RangeLaws.{drop_next, drop_pair}
+use Rattle.std.proofs.Common.{◌||◌, ◌++◌}
+use Rattle.std.proofs.lemmas.Grind.{common_steps}
+use Rattle.std.proofs.lemmas.Bool.Decides.{nat_tests}
 use Rattle.script_lookup.specs.Rising.{range_first, range_last, ranges_rise, Rises}
 
 -- ---- the test's loop
 
-few_rise : (ranges : List ℕ) → length ranges ≤ 2 → ranges_rise ranges ≡ true
-few_rise [] h = refl
-few_rise (first ∷ []) h = refl
-few_rise (first ∷ last ∷ []) h = refl
-few_rise (first ∷ last ∷ following ∷ ranges) h = absurd (omega (arith, h))
+-- the very first is not looked at
+head_unread : (a b : ℕ) (ranges : List ℕ) → ranges_rise (a ∷ ranges) ≡ ranges_rise (b ∷ ranges)
+head_unread a b [] = refl
+head_unread a b (last ∷ []) = refl
+head_unread a b (last ∷ following ∷ ranges) = refl
+
+pub rise_start : (ranges rest : List ℕ) (first : ℕ) → ranges ≡ first ∷ rest → ranges_rise (0 ∷ rest) ≡ ranges_rise ranges
+rise_start ranges rest first e = rw e (head_unread 0 first rest)
 
 -- none so far met the one before it, and the rest rise
-module _ (ranges : List ℕ) (i : ℕ) (met : Bool) where
-  pub rise_end : length ranges ≤ i + 2 → not met ≡ (not met && ranges_rise (drop i ranges))
-  rise_end h = rw (few_rise (drop i ranges) (omega (arith, length-drop i ranges))) (sym (and-true (not met)))
+pub rise_next : (met : Bool) (pair ranges : List ℕ) → length pair ≡ 2
+    → (not (met || leb (get_or pair 1 0) (get_or pair 0 0)) && ranges_rise (0 ∷ ranges)) ≡ (not met && ranges_rise (0 ∷ (pair ++ ranges)))
+rise_next met [] ranges h = absurd (omega arith)
+rise_next met (last ∷ []) ranges h = absurd (omega arith)
+rise_next met (last ∷ following ∷ []) ranges h = rw (head_unread following 0 ranges) (by (ranges_rise (0 ∷ ranges)))
+  where
+    by : (later : Bool) → (not (met || leb following last) && later) ≡ (not met && (ltb last following && later))
+    by later = grind (arith, common_steps, nat_tests)
+rise_next met (last ∷ following ∷ more ∷ pair) ranges h = absurd (omega arith)
 
-  pub rise_next : i + 2 < length ranges
-      → (not (cond (ltb (get_or ranges (i + 1) 0) (get_or ranges (i + 2) 0)) met true) && ranges_rise (drop (i + 2) ranges))
-      ≡ (not met && ranges_rise (drop i ranges))
-  rise_next h =
-      rw (drop_pair ranges i (omega arith), drop_next ranges (i + 2) h)
-      (by (ltb (get_or ranges (i + 1) 0) (get_or ranges (i + 2) 0)) met (ranges_rise (get_or ranges (i + 2) 0 ∷ drop (i + 2 + 1) ranges)))
-    where
-      by : (above met later : Bool) → (not (cond above met true) && later) ≡ (not met && (above && later))
-      by true met later = refl
-      by false true later = refl
-      by false false later = refl
+pub rise_end : (met : Bool) (ranges : List ℕ) → length ranges < 2 → not met ≡ (not met && ranges_rise (0 ∷ ranges))
+rise_end met [] h = sym (and-true (not met))
+rise_end met (last ∷ []) h = sym (and-true (not met))
+rise_end met (last ∷ following ∷ ranges) h = absurd (omega arith)
 
 -- ---- what it says of any two ranges
 

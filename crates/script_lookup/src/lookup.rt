@@ -1,6 +1,5 @@
 // The search by halves.
-ghost use Rattle.std.specs.Prelude.{◌≡◌, cond, ◌||◌, leb};
-ghost use Rattle.families.specs.Family.{within};
+ghost use Rattle.std.specs.Prelude.{◌≡◌, cond, leb};
 ghost use Rattle.script_lookup.specs.Promises.{Searches};
 
 use isa::MmioAddress;
@@ -10,17 +9,6 @@ use isa::MmioAddress;
 pub struct Lookup {
     pub listed: bool,
     pub looks: usize,
-}
-
-// Whether the range holds the address, or another did.
-fn holds_or(first: u32, address: u32, last: u32, another: bool) -> bool
-    ensures { result ≡ (within first address last || another) }
-{
-    if script::holds(first, address, last) {
-        true
-    } else {
-        another
-    }
 }
 
 // 1 where the first is not above the address, and else 0. It is reckoned, as of a test the compiler makes a branch that no guess foresees.
@@ -44,7 +32,7 @@ pub fn search(ranges: &[u32], address: MmioAddress) -> Lookup
         let middle = low + half;
         let first = ranges[2 * middle];
         let last = ranges[2 * middle + 1];
-        listed = holds_or(first, wanted, last, listed);
+        listed |= script::holds(first, wanted, last);
         looks += 1;
         low += reached(first, wanted) * (n - half);
         n = half;

@@ -8,21 +8,21 @@ ghost use Rattle.words.specs.Numbers.{word_at};
 pub fn byte_at(bytes: &[u8], at: usize) -> u8
     ensures { result ≡ get_or bytes.now at 0 }
 {
-    if at < bytes.len() { bytes[at] } else { 0 }
+    bytes.get(at).copied().unwrap_or(0)
 }
 
 // The number of two bytes, the lowest first.
 pub fn half_word(a: u8, b: u8) -> u16
     ensures { result ≡ a + 256 * b }
 {
-    a as u16 + 256 * (b as u16)
+    u16::from_le_bytes([a, b])
 }
 
 // The number of four bytes, the lowest first.
 pub fn word(a: u8, b: u8, c: u8, d: u8) -> u32
     ensures { result ≡ a + 256 * b + 65536 * c + 16777216 * d }
 {
-    a as u32 + 256 * (b as u32) + 65536 * (c as u32) + 16777216 * (d as u32)
+    u32::from_le_bytes([a, b, c, d])
 }
 
 // The number of the four bytes from a place on; those past the end count as 0.
@@ -42,5 +42,5 @@ pub fn word_at(bytes: &[u8], at: usize) -> u32
 pub fn long_word(low: u32, high: u32) -> u64
     ensures { result ≡ low + 4294967296 * high }
 {
-    low as u64 + 4294967296 * (high as u64)
+    u64::from(low) + (u64::from(high) << 32)
 }

@@ -17,7 +17,7 @@ returns-in-Pass c =
 pub returns-in-Fault : goal.returns-in-Fault
 returns-in-Fault c =
     let a = c.args in
-    let line = ap (λ (n : ℕ). fault_line n c.in-Fault.place.0) c.fault_number.ensures in
+    let line = ap (λ (n : ℕ). fault_line n c.in-Fault.place.0) c.from.ensures in
     record {
       stored = both_stored a.out.now 0 (family_line a.family) (verdict_line a.verdict) c.put_family-a.ensures.stored
           (stored_as _ _ (line ∙ sym (ap verdict_line c.in-Fault.is)) c.put_fault.ensures);

@@ -132,8 +132,8 @@ returns c =
     let verdict_is = c.audit_code-verdict.ensures ∙ lent_verdict j c.sequencer_of-sequencer.ensures in
     let family_is = ap (λ (q : Sequencer). q.family) c.sequencer_of-sequencer.ensures in
     let runs = lent_run j c.sequencer_of-sequencer.ensures c.run_code-answer.ensures in
-    let last : Progress = c.in-Ended.last in
-    let ran_job : RanJob j last (take (2 * last.writes) c.run_code-answer.new.writes) = ran j ready _ _ _ runs lent last c.in-Ended.is in
+    let last : Progress = c.in-Ok.last in
+    let ran_job : RanJob j last (take (2 * last.writes) c.run_code-answer.new.writes) = ran j ready _ _ _ runs lent last c.in-Ok.is in
     let d = c.put_verdict-a.new.out in
     let at = c.put_verdict-a.result in
     let writes = write_lines (job_run j).writes in
@@ -142,7 +142,7 @@ returns c =
     let run =
     both_stored d at (rows ++ probe_lines j) (last_lines j.state (progress_of (job_run j)))
     (both_stored d at rows (probe_lines j)
-    (both_stored d at writes (row_lines 0 (known_of j)) (stored_as _ _ pairs c.put_writes-b.ensures) c.put_known-c.ensures)
+    (both_stored d at writes (row_lines 0 (known_of j)) (stored_as _ _ pairs c.put_writes-b.ensures) c.put_rows-c.ensures)
     c.put_events-d.ensures)
     (stored_as _ _ (ap (last_lines j.state) ran_job.came) c.put_last.ensures) in
     job_reports c.args.job.now lent_bytes read.result read.ensures.answered c.if-number-ne0.false ready c.put_verdict-a.ensures.out_len

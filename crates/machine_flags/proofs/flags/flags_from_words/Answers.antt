@@ -1,7 +1,6 @@
-use mathlib.Core.Path.{refl}
 use native.Mathlib.Omega.{arith}
 use Rattle.machine_flags.proofs.WordLaws.{made_of}
 use Rattle.machine_flags.proofs.flags.flags_from_words.Goals as goal
 
 pub returns : goal.returns
-returns c = made_of _ _ _ (omega arith) (omega arith) refl
+returns c = made_of _ _ (omega arith) (omega arith)

@@ -1,14 +1,12 @@
-use mathlib.Core.Path.{sym, ◌∙◌}
-use native.Mathlib.Omega.{arith}
-use Rattle.script.proofs.RangeLaws.{listed_alone, listed_next}
+use Rattle.std.proofs.Common.{rules, ◌∙◌, get_or}
+use Rattle.std.proofs.lemmas.Iterator.Search.{any_from_yields_List}
+use Rattle.families.specs.Family.{within}
+use Rattle.script.proofs.RangeLaws.{pairs_yield, listed_pairs}
 use Rattle.script.proofs.ranges.listed.Goals as goal
 
-pub returns-then-ranges-i-lt2 : goal.returns-then-ranges-i-lt2
-returns-then-ranges-i-lt2 c =
-    let a = c.args in
-    listed_alone a.ranges.now c.loop-i.i a.address.0 (omega arith) c.if-ranges-i-lt2.true ∙ c.loop-i.invariant
-
-pub loop-i-preserved : goal.loop-i-preserved
-loop-i-preserved c =
-    let a = c.args in
-    listed_next a.ranges.now c.loop-i.i a.address.0 (omega arith) (sym c.holds.ensures ∙ c.if-holds.false) ∙ c.loop-i.invariant
+pub returns : goal.returns
+returns c =
+    let come = c.chunks_exact.ensures in
+    any_from_yields_List (λ pair. within (get_or pair 0 0) c.args.address.0 (get_or pair 1 0)) _ _ _ c.any.ensures.ran
+    (pairs_yield c.args.ranges.now c.chunks_exact.result come.rest come.size) (λ x b q k. search rules)
+    ∙ listed_pairs c.args.ranges.now c.args.address.0

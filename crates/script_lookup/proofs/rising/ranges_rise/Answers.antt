@@ -1,22 +1,29 @@
-use Prim.Native.Nat.{◌+◌}
-use mathlib.Core.Path.{ap, ◌∙◌}
-use mathlib.Core.Bool.{Bool, not, ◌&&◌}
-use native.Mathlib.Omega.{arith}
-use lib.ListN.{drop}
+use Rattle.std.proofs.Common.{ℕ, ◌<◌, List, length, not, ◌&&◌, ◌∷◌, sym, ap, ◌∙◌, arith}
+use Rattle.std.specs.Slice.Iter.{chunks_exact_rest, chunks_exact_size}
 use Rattle.script_lookup.specs.Rising.{ranges_rise}
-use Rattle.script_lookup.proofs.RisingLaws.{rise_end, rise_next, rises}
+use Rattle.script_lookup.proofs.RisingLaws.{rise_start, rise_next, rise_end, rises}
 use Rattle.script_lookup.proofs.rising.ranges_rise.Goals as goal
 
-pub loop-i-preserved : goal.loop-i-preserved
-loop-i-preserved c =
-    let ranges = c.args.ranges.now in
-    let there = c.loop-i-test.true in
-    let all = ap (λ (met : Bool). not met && ranges_rise (drop (c.loop-i.i + 2) ranges)) c.meets-met.ensures
-    ∙ rise_next ranges c.loop-i.i c.loop-i.met there
-    ∙ c.loop-i.invariant.0 in
-    (all, omega (arith, there))
+pub loop-meeting-init : goal.loop-meeting-init
+loop-meeting-init c =
+    let come = c.chunks_exact-meeting-items.ensures in
+    let same = c.into_iter-meeting-iterator.ensures.into_iter_gives in (
+      ap (λ (r : List ℕ). ranges_rise (0 ∷ r)) (ap chunks_exact_rest same ∙ come.rest)
+          ∙ rise_start c.args.ranges.now c.in-Some.rest.now c.in-Some.field-0-0.now c.in-Some.ensures.cases.0,
+      ap chunks_exact_size same ∙ come.size,
+    )
+
+pub loop-meeting-preserved : goal.loop-meeting-preserved
+loop-meeting-preserved c =
+    let i = c.loop-meeting.invariant in
+    let s = c.in-Some-meeting.ensures.steps in (
+      rise_next c.loop-meeting.met c.in-Some-meeting.meeting.now _ (s.1.1 ∙ i.1)
+          ∙ ap (λ (r : List ℕ). not c.loop-meeting.met && ranges_rise (0 ∷ r)) (sym s.1.0) ∙ i.0,
+      s.0 ∙ i.1,
+    )
 
 pub returns : goal.returns
 returns c =
-    let ranges = c.args.ranges.now in
-    rises ranges (rise_end ranges c.loop-i.i c.loop-i.met (omega (arith, c.loop-i-test.false)) ∙ c.loop-i.invariant.0)
+    let i = c.loop-meeting.invariant in
+    let few : length (chunks_exact_rest c.loop-meeting.meeting-iterator) < 2 = omega (arith, c.in-None.ensures.steps.1.0, i.1) in
+    rises c.args.ranges.now (rise_end c.loop-meeting.met _ few ∙ i.0)
