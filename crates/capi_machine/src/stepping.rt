@@ -101,8 +101,7 @@ fn effect_numbers(effect: Effect) -> EffectNumbers
 fn step_reply(stepped: Stepped) -> StepReply
     ensures { result ≡ step_reply stepped }
 {
-    let effect = stepped.effect;
-    let told = effect_numbers(effect);
+    let told = effect_numbers(stepped.effect);
     let state = StateImage::from(stepped.state);
     StepReply {
         refusal: told.refusal,
@@ -114,6 +113,6 @@ fn step_reply(stepped: Stepped) -> StepReply
         used: stepped.place.used,
         waited: stepped.waited,
         searched: stepped.searched,
-        state,
+        state: state_image(stepped.state),
     }
 }
