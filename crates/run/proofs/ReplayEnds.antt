@@ -20,7 +20,7 @@ use Rattle.run.specs.SlotRun.{Scene, slot_script, with_log, slot_run_of}
 use Rattle.run.specs.Replay.{max_entries, full_steps, full_slot_run, progress_of, entries_of, written_into, told_answer, run_number, answer_number}
 use Rattle.run.specs.Replay.{run_answer_of, run_refusal, lent_after, FewWrites, RunEnds, EndsRight, RunsSlot, TellsFew}
 use Rattle.run.specs.declared.answers.Progress.{Progress}
-use Rattle.run.specs.declared.answers.RunAnswer.{RunAnswer}
+use Rattle.run.specs.Replay.{RunAnswer}
 use Rattle.run.proofs.SlotRuns.{slot_clocks}
 use Rattle.run.proofs.InState.{run_back, follows, full_follows, full_next_follows}
 use Rattle.run.proofs.MoreLog.{slot_keeps}

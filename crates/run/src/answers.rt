@@ -5,7 +5,7 @@ use machine_flags::Flags;
 use machine_state::Slot;
 
 // How a run ended.
-#[derive(Clone, Copy)]
+#[derive(Clone, Copy, PartialEq, Eq, Debug)]
 pub enum Ending {
     Exit,
     // in a wait, the log used up
