@@ -102,7 +102,6 @@ fn step_reply(stepped: Stepped) -> StepReply
     ensures { result ≡ step_reply stepped }
 {
     let told = effect_numbers(stepped.effect);
-    let state = StateImage::from(stepped.state);
     StepReply {
         refusal: told.refusal,
         effect: told.kind,
@@ -113,6 +112,6 @@ fn step_reply(stepped: Stepped) -> StepReply
         used: stepped.place.used,
         waited: stepped.waited,
         searched: stepped.searched,
-        state: state_image(stepped.state),
+        state: StateImage::from(stepped.state),
     }
 }
