@@ -12,7 +12,7 @@ pub struct Waited {
 }
 
 // Waits n clocks from a place on. A row used up means the next row with none used.
-#[tactic(auto, using(crate::proofs::WaitLaws::wait_in_lem, crate::proofs::WaitLaws::wait_on, crate::proofs::WaitLaws::wait_end, crate::proofs::WaitLaws::waits))]
+#[tactic(auto, using(crate::proofs::WaitLaws::wait_laws))]
 pub fn clock_wait(clocks: &[u64], at: Place, n: u64) -> Waited
     ensures { Waits clocks.now at n result }
 {
