@@ -110,12 +110,13 @@ making_first {l = l} w room h = record {
 }
 
 -- the loop begins so, on its way to the verdict's place
-pub making_begins : (x : Script) (ranges : List ℕ) → ((i : ℕ) → get_or x.code i 0 < 2 ^ 8) → {place : ℕ} (lent : Log)
+pub making_begins : (x : Script) (ranges : List ℕ) {place : ℕ} (lent : Log)
     → (input_fits x ranges ≡ true) × (place ≡ place_of (audit_of x ranges))
         × (max_shown ≤ length lent.clocks) × (max_shown ≤ length lent.known) × (max_shown ≤ length lent.values)
+        × ((i : ℕ) → get_or x.code i 0 < 256)
     → {made : Timeline} → made ≡ nothing_made → Making x ranges place (way x ranges) lent lent x.entry made
-making_begins x ranges bytes lent needs nothing =
-    let w = (audit_walked x ranges bytes needs.0).walk in
+making_begins x ranges lent needs nothing =
+    let w = (audit_walked x ranges needs.5 needs.0).walk in
     let low = (fits_script x (both_left (script_fits x) (ranges_fit ranges) needs.0)).entry_low in
     let room : Room max_shown lent = record { clocks = needs.2; known = needs.3; values = needs.4 } in
     rw (needs.1, nothing, way_is (code_size x.family) w (omega arith)) (making_first w room low)

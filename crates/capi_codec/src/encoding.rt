@@ -71,12 +71,8 @@ fn unnamed_number(family: u8) -> u8
 fn wide_number(family: u8) -> u8
     ensures { result ≡ wide_number family }
 {
-    if 2 <= family {
-        if families::known_family(family) {
-            12
-        } else {
-            9
-        }
+    if 2 <= family && families::known_family(family) {
+        12
     } else {
         unnamed_number(family)
     }
