@@ -111,6 +111,7 @@ fn named_half(kind: u8, half: u32) -> Result<Instruction, Unnamed>
 }
 
 // An operand that the instruction lacks is not looked at.
+#[tactic(auto, unfolding(crate::specs::Encoding::named_by))]
 fn named_by(kind: u8, first: u32, second: u8) -> Result<Instruction, Unnamed>
     ensures { result ≡ named_by kind first second }
 {
