@@ -24,7 +24,7 @@ pub fn audit(script: Script<'_>, ranges: &[u32]) -> Verdict
 }
 
 // Does nothing: of a slice that is a parameter a proof knows that its elements are bytes, and of one in a struct it does not.
-pub fn are_bytes(code: &[u8])
+fn are_bytes(code: &[u8])
     ensures { (i : ℕ) → slice_index code.now i < 256 }
 {
 }

@@ -4,4 +4,4 @@
 mod assess;
 mod auditor;
 
-pub use auditor::{are_bytes, audit};
+pub use auditor::audit;

@@ -1,11 +1,11 @@
 -- The log that is made row by row, against the rows that the script's way asks for. Assumes nothing.
 use Rattle.std.specs.Prelude.{Ok, Err}
-use Prim.Native.Nat.{ℕ, ◌+◌, ◌*◌, ◌^◌, ◌≤◌, ◌<◌}
+use Prim.Native.Nat.{ℕ, ◌+◌, ◌*◌, ◌≤◌, ◌<◌}
 use mathlib.Core.Path.{◌≡◌, refl, sym, ap, ap₂, subst, ◌∙◌}
 use mathlib.Core.Bool.{true}
 use mathlib.Core.List.{List, [], ◌∷◌, ◌++◌, append_assoc}
 use native.Mathlib.Omega.{arith}
-use lib.ListN.{length, get_or, length-append, length-set}
+use lib.ListN.{length, get_or, length-append}
 use Rattle.families.specs.Family.{code_size}
 use Rattle.isa.specs.declared.instructions.Instruction.{Instruction}
 use Rattle.isa.specs.Answers.{Decoded}
@@ -22,7 +22,7 @@ use Rattle.machine_actions.specs.declared.actions.Action.{Action}
 use Rattle.script.specs.Script.{Script, fetch_at}
 use Rattle.script.specs.Input.{script_fits, ranges_fit, input_fits}
 use Rattle.script.proofs.Scripts.{fits_script, Reads}
-use Rattle.audit_verdict.specs.Auditor.{Releasable, wait_length, know_next, know_nothing, audit_of}
+use Rattle.audit_verdict.specs.Auditor.{know_next, know_nothing, audit_of}
 use Rattle.audit_verdict.specs.Witness.{first_row, row_after, rows_ended, rows_over, writes_over, place_of, max_shown}
 use Rattle.audit_verdict.specs.declared.verdicts.Knowledge.{Knowledge}
 use Rattle.audit_script.proofs.Walking.{poke_small}
@@ -30,7 +30,7 @@ use Rattle.audit_verdict.proofs.Cases.{never}
 use Rattle.audit_verdict.proofs.Judging.{Fine}
 use Rattle.audit_verdict.proofs.Walk.{Walk, here, further, actions_of, walk_forward, way_is}
 use Rattle.audit_verdict.proofs.Claim.{audit_walked}
-use Rattle.audit_verdict.proofs.WitnessLog.{StaysBelow, bounded_next, bounded_start, wait_short, RowFits, first_fits, row_fits_after, reads_size}
+use Rattle.audit_verdict.proofs.WitnessLog.{StaysBelow, bounded_next, bounded_start, RowFits, first_fits, row_fits_after, reads_size}
 use Rattle.audit_witness.specs.Witnesses.{way}
 use Rattle.audit_witness.specs.Inside.{with_row, nothing_made, made_after, Extends, Follows}
 use Rattle.audit_witness.specs.declared.rows.Timeline.{Timeline}
@@ -110,12 +110,13 @@ making_first {l = l} w room h = record {
 }
 
 -- the loop begins so, on its way to the verdict's place
-pub making_begins : (x : Script) (ranges : List ℕ) → ((i : ℕ) → get_or x.code i 0 < 2 ^ 8) → {place : ℕ} (lent : Log)
+pub making_begins : (x : Script) (ranges : List ℕ) {place : ℕ} (lent : Log)
     → (input_fits x ranges ≡ true) × (place ≡ place_of (audit_of x ranges))
         × (max_shown ≤ length lent.clocks) × (max_shown ≤ length lent.known) × (max_shown ≤ length lent.values)
+        × ((i : ℕ) → get_or x.code i 0 < 256)
     → {made : Timeline} → made ≡ nothing_made → Making x ranges place (way x ranges) lent lent x.entry made
-making_begins x ranges bytes lent needs nothing =
-    let w = (audit_walked x ranges bytes needs.0).walk in
+making_begins x ranges lent needs nothing =
+    let w = (audit_walked x ranges needs.5 needs.0).walk in
     let low = (fits_script x (both_left (script_fits x) (ranges_fit ranges) needs.0)).entry_low in
     let room : Room max_shown lent = record { clocks = needs.2; known = needs.3; values = needs.4 } in
     rw (needs.1, nothing, way_is (code_size x.family) w (omega arith)) (making_first w room low)
@@ -127,13 +128,6 @@ module _ {x : Script} {ranges : List ℕ} {place : ℕ} {all : List Action} {len
 
   pub same_lengths : SameLengths lent log
   same_lengths = subst (SameLengths lent) (sym g.put) (rows_lengths lent g.before (less_room g.room (omega (arith, few))))
-
-  -- the next row has a place in each column
-  pub place_left : (made.before < length log.clocks) × (made.before < length log.known) × (made.before < length log.values)
-  place_left =
-      let s = same_lengths in
-      let small : made.before ≤ 170 = omega (arith, few, g.counted) in
-      (omega (arith, small, s.clocks, g.room.clocks), omega (arith, small, s.known, g.room.known), omega (arith, small, s.values, g.room.values))
 
   put_after : (rows : List Row) → length g.before + length rows ≤ max_shown → with_rows_at log made.before rows ≡ rows_into lent (g.before ++ rows)
   put_after rows h = ap₂ (λ (l : Log) (n : ℕ). with_rows_at l n rows) g.put g.counted ∙ rows_more lent g.before rows (less_room g.room h)
@@ -151,15 +145,6 @@ module _ {x : Script} {ranges : List ℕ} {place : ℕ} {all : List Action} {len
         put = p ∙ put_after (made.row ∷ []) (omega (arith, few)) ∙ ap (rows_into lent) rows_are;
       }
 
-  pub lengths_over : {new : Log} (n : ℕ) (row : Row) → new ≡ with_row log n row → SameLengths lent new
-  lengths_over n row p =
-      let s = same_lengths in
-      rw p (record {
-        clocks = length-set log.clocks n row.clocks ∙ s.clocks;
-        known = length-set log.known n row.known ∙ s.known;
-        values = length-set log.values n row.values ∙ s.values;
-      })
-
   -- before it the fetch gives an instruction
   module _ (apart : at ≡ place → ⊥) {answer : Decoded} (fetched : Fetches x.family x.code x.marks at answer) where
     pub making_fetched : {why : Unreadable} → answer ≡ Err why → ⊥
@@ -174,17 +159,6 @@ module _ {x : Script} {ranges : List ℕ} {place : ℕ} {all : List Action} {len
 
       pub inside : (0 < n) × (at + n ≤ 512)
       inside = let e = step.reads in (e.some, omega (arith, e.inside, size_small x.family))
-
-      pub counts_fit : (made.before < 1024) × (made.steps < 1024) × (made.writes < 1024)
-          × (made.row.clocks + wait_length action < 2 ^ 64) × (Releasable action)
-      counts_fit =
-          let short = wait_short action step.reads.formed in (
-            omega (arith, few, g.counted),
-            omega (arith, g.few_steps, g.low),
-            omega (arith, g.few_writes, g.few_steps, g.low),
-            omega (arith, g.row_fits.most, g.bounded.clocks, g.bounded.count, g.low, short),
-            step.fine.event,
-          )
 
       making_on : {new : Log} → new ≡ with_rows_at log made.before (rows_ended action made.row)
           → Making x ranges place all lent new (at + n) (made_after action made)

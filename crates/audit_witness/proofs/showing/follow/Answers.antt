@@ -5,7 +5,7 @@ use Rattle.audit_witness.proofs.showing.follow.Goals.{else-loop-at-test, then-lo
 use Rattle.audit_witness.proofs.showing.follow.Goals as goal
 
 pub loop-at-init : goal.loop-at-init
-loop-at-init c = making_begins _ _ c.are_bytes.ensures _ c.requires c.begin-made.ensures
+loop-at-init c = making_begins _ _ _ c.requires c.begin-made.ensures
 
 pub loop-at-smaller : goal.loop-at-smaller
 loop-at-smaller c = omega (arith, inside c.loop-at.invariant c.loop-at-test.true c.fetch.ensures c.in-Ok.is)

@@ -21,6 +21,7 @@ follow-made-requires c = (
     c.if-clocks-lt-MAX_SHOWN.false,
     c.if-known-lt-MAX_SHOWN.false,
     c.if-values-lt-MAX_SHOWN.false,
+    c.audit-verdict.ensures.bytes,
 )
 
 pub returns : goal.returns
