@@ -14,7 +14,7 @@ use Rattle.run.specs.declared.answers.Progress.{Progress}
 use Rattle.job_records.specs.Job.{known_of}
 use Rattle.job_records.specs.Reader.{job_read_of}
 use Rattle.job_records.specs.declared.contents.Job.{Job}
-use Rattle.job_records.specs.declared.jobs.JobRead.{JobRead}
+use Rattle.job_records.specs.Reader.{JobRead}
 use Rattle.job_report.specs.Lines.{refused_line, write_lines, row_lines}
 use Rattle.job_report.specs.Report.{probe_lines, last_lines, run_lines, job_lines, report_of, step_lines}
 use Rattle.job_report.specs.Promises.{max_report, Reports}
