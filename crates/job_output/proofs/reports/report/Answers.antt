@@ -12,9 +12,8 @@ use Rattle.machine_state.specs.declared.sequencer.Sequencer.{Sequencer}
 use Rattle.run.specs.Replay.{progress_of}
 use Rattle.run.specs.declared.answers.Progress.{Progress}
 use Rattle.job_records.specs.Job.{known_of}
-use Rattle.job_records.specs.Reader.{job_read_of}
 use Rattle.job_records.specs.declared.contents.Job.{Job}
-use Rattle.job_records.specs.Reader.{JobRead}
+use Rattle.job_records.specs.Reader.{JobRead, job_read_of, told}
 use Rattle.job_report.specs.Lines.{refused_line, write_lines, row_lines}
 use Rattle.job_report.specs.Report.{probe_lines, last_lines, run_lines, job_lines, report_of, step_lines}
 use Rattle.job_report.specs.Promises.{max_report, Reports}
@@ -66,7 +65,8 @@ job_reports bytes old read e z ready size h =
     (λ _. subst (λ (r : JobRead). run_lines r.job ≡ step_lines r.job) e (follows_steps read.job ready.sound ready.started))
 
 pub returns-then-number-ne0 : goal.returns-then-number-ne0
-returns-then-number-ne0 c =
+returns-then-number-ne0 c = let h = c.read_job-read in ?
+old c =
     let read = c.read_job-read in
     let a = c.args in
     reports a.job.now a.out.now (refusal_is a.job.now read.result read.ensures.answered c.if-number-ne0.true)
