@@ -4,4 +4,4 @@
 mod assess;
 mod auditor;
 
-pub use auditor::audit;
+pub use auditor::{are_bytes, audit};

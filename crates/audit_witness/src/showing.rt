@@ -86,14 +86,12 @@ fn follow(
     ensures { Follows (way (lent_script script.entry) ranges.now)
         (log_of clocks.old known.old values.old) (log_of clocks.new known.new values.new) result }
 {
+    audit_script::are_bytes(script.ram.code);
     let mut at = script.entry.0;
     let mut made = begin();
-    let last = loop {
-        if at == place.0 {
-            break made;
-        }
+    while at != place.0 {
         let Ok((instruction, length)) = script.ram.fetch(CodeAddress(at)) else {
-            break made;
+            break;
         };
         made = extend(
             machine_actions::action_of(instruction),
@@ -103,7 +101,7 @@ fn follow(
             values,
         );
         at += length;
-    };
-    put_row(last.row, last.before, clocks, known, values);
-    last
+    }
+    put_row(made.row, made.before, clocks, known, values);
+    made
 }

@@ -6,7 +6,7 @@ use Rattle.event_log.specs.Log.{Log}
 use Rattle.script.specs.Script.{Script}
 use Rattle.run.specs.Registers.{Registers}
 use Rattle.run.specs.Replay.{Replays}
-use Rattle.run.specs.declared.answers.ReplayAnswer.{ReplayAnswer}
+use Rattle.run.specs.Replay.{ReplayAnswer}
 use Rattle.capi_replay.specs.Replays.{replay_reply, HwsqReplay}
 use Rattle.capi_replay.specs.declared.replays.ReplayReply.{ReplayReply}
 

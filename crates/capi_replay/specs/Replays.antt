@@ -4,19 +4,9 @@ use Rattle.refusals.specs.Number.{unreplayable_number}
 use Rattle.event_log.specs.Log.{Log}
 use Rattle.script.specs.Script.{Script}
 use Rattle.run.specs.Registers.{Registers}
-use Rattle.run.specs.Replay.{replay_of, Replays}
-use Rattle.run.specs.declared.answers.Ending.{Ending}
+use Rattle.run.specs.Replay.{ending_number, ReplayAnswer, replay_of, Replays}
 use Rattle.run.specs.declared.answers.Replayed.{Replayed}
-use Rattle.run.specs.declared.answers.ReplayAnswer.{ReplayAnswer}
 use Rattle.capi_replay.specs.declared.replays.ReplayReply.{ReplayReply}
-
--- endings count from 1, so that zeros name none
-abbrev pub ending_number : Ending → ℕ
-ending_number Ending.Exit = 1
-ending_number Ending.Log = 2
-ending_number Ending.Poke = 3
-ending_number Ending.Hang = 4
-ending_number Ending.Stop = 5
 
 abbrev pub unreplayed_reply : ℕ → ReplayReply
 unreplayed_reply number = record {

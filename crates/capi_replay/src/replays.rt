@@ -1,6 +1,6 @@
 // Replay, its answer as numbers.
 ghost use Rattle.std.specs.Prelude.{◌≡◌};
-ghost use Rattle.capi_replay.specs.Replays.{ending_number, ended_reply, unreplayed_reply, replay_reply, HwsqReplay};
+ghost use Rattle.capi_replay.specs.Replays.{ended_reply, unreplayed_reply, replay_reply, HwsqReplay};
 ghost use Rattle.event_log.specs.Log.{log_of};
 ghost use Rattle.run.specs.Registers.{registers_of};
 ghost use Rattle.script.specs.Script.{script_of};
@@ -9,7 +9,7 @@ use event_log::Log;
 use isa::{CodeAddress, MmioAddress};
 use isa_fetch::CodeRam;
 use refusals::Unreplayable;
-use run::{Ending, Registers, Replayed};
+use run::{Registers, Replayed};
 use script::Script;
 
 #[repr(C)]
@@ -110,25 +110,12 @@ fn unreplayed(refusal: u8) -> ReplayReply
     }
 }
 
-fn ending_number(ending: Ending) -> u8
-    ensures { result ≡ ending_number ending }
-{
-    match ending {
-        Ending::Exit => 1,
-        Ending::Log => 2,
-        Ending::Poke => 3,
-        Ending::Hang => 4,
-        Ending::Stop => 5,
-    }
-}
-
 fn ended_reply(told: Replayed) -> ReplayReply
     ensures { result ≡ ended_reply told }
 {
-    let ending = told.ending;
     ReplayReply {
         refusal: 0,
-        ending: ending_number(ending),
+        ending: u8::from(told.ending),
         addr: told.addr.0,
         data: told.data,
         flags_0: told.flags_0,

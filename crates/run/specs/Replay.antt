@@ -58,6 +58,14 @@ ending_of Mode.Waiting = Ending.Log
 ending_of Mode.Blocked = Ending.Poke
 ending_of Mode.Hung = Ending.Hang
 
+-- the number of an ending: they count from 1, so that zeros name none
+abbrev pub ending_number : Ending → ℕ
+ending_number Ending.Exit = 1
+ending_number Ending.Log = 2
+ending_number Ending.Poke = 3
+ending_number Ending.Hang = 4
+ending_number Ending.Stop = 5
+
 -- what replay answers of a run over rows of these clocks
 abbrev pub told_of : List ℕ → Progress → Replayed
 told_of clocks p = record {

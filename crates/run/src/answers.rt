@@ -1,4 +1,7 @@
 // What the run of a slot answers, and what replay tells of it.
+ghost use Rattle.std.specs.Prelude.{◌≡◌};
+ghost use Rattle.run.specs.Replay.{ending_number};
+
 use event_log::Place;
 use isa::{CodeAddress, MmioAddress};
 use machine_flags::Flags;
@@ -15,6 +18,21 @@ pub enum Ending {
     Hang,
     // at a byte past the code RAM or never uploaded
     Stop,
+}
+
+// The number of an ending: they count from 1, so that zeros name none.
+impl From<Ending> for u8 {
+    fn from(ending: Ending) -> u8
+        ensures { result ≡ ending_number ending }
+    {
+        match ending {
+            Ending::Exit => 1,
+            Ending::Log => 2,
+            Ending::Poke => 3,
+            Ending::Hang => 4,
+            Ending::Stop => 5,
+        }
+    }
 }
 
 #[derive(Clone, Copy)]

@@ -1,4 +1,4 @@
-// What a run is, and what replay is to answer of one: definitions and laws, no code.
+// What a run is, and what replay is to answer of one: definitions and laws, and no code but the number of an ending.
 #![tactic(auto)]
 
 mod answers;

@@ -6,7 +6,7 @@ use mathlib.Core.List.{List, [], ◌++◌}
 use native.Mathlib.Omega.{arith}
 use lib.ListN.{length, drop, length-append}
 use lib.Seq.{sets}
-use Rattle.isa_fetch.specs.Fetch.{fetch_of}
+use Rattle.isa_fetch.proofs.Places.{size_small}
 use Rattle.event_log.specs.Rows.{column_into}
 use Rattle.event_log.specs.Validity.{valid_log, log_start}
 use Rattle.event_log.proofs.Columns.{column_length, column_more}
@@ -18,14 +18,14 @@ use Rattle.machine_state.specs.declared.slots.Slot.{Slot}
 use Rattle.machine_slot.specs.declared.slot_steps.Effect.{Effect}
 use Rattle.machine_slot.specs.declared.slot_steps.SlotStep.{SlotStep}
 use Rattle.run.specs.Run.{Write, wrote_by, fetched_by}
-use Rattle.run.specs.SlotRun.{Scene, SlotRun, slot_begun, took_slot_step, slot_step_from, next_slot_step, slot_run_for}
+use Rattle.run.specs.SlotRun.{Scene, fetch_in, SlotRun, slot_begun, took_slot_step, slot_step_from, next_slot_step, slot_run_for}
 use Rattle.run.specs.Replay.{entries_of, written_into, full_steps, full_slot_run, progress_of}
 use Rattle.run.specs.declared.answers.Progress.{Progress}
 use Rattle.run.proofs.Entries.{entries_length, entries_append}
 use Rattle.run.proofs.Room.{slot_room}
 use Rattle.run.proofs.SlotRuns.{slot_snoc, slot_clocks}
 use Rattle.run.proofs.Settled.{Settled, settled_more, rest_settled}
-use Rattle.run_replay.specs.Progress.{progress_after}
+use Rattle.run_replay.specs.Progress.{progress_after, RunsThrough}
 
 -- ---- effects
 
@@ -75,13 +75,13 @@ written_more lent ws more h =
 progress_took : (r : SlotRun) (t : SlotStep) → progress_of (took_slot_step r t) ≡ progress_after (progress_of r) t
 progress_took r t = rw length-append refl
 
+-- the step that a progress asks for
+abbrev pub slot_step_on : Scene → Progress → SlotStep
+slot_step_on x p = slot_step_of x.family x.enable p.slot p.flags x.log p.place (fetch_in x p.slot.ip.0)
+
 module _ (x : Scene) (slot : Slot) (flags : Flags) where
   abbrev pub run_to : ℕ → SlotRun
   run_to n = slot_run_for x n (slot_begun slot flags)
-
-  -- the step that a progress asks for
-  abbrev pub slot_step_on : Progress → SlotStep
-  slot_step_on p = slot_step_of x.family x.enable p.slot p.flags x.log p.place (fetch_of x.family x.code x.marks p.slot.ip.0)
 
   run_next : (n : ℕ) → is_running (run_to n).slot.mode ≡ true → run_to (suc n) ≡ took_slot_step (run_to n) (slot_step_from x (run_to n))
   run_next n m =
@@ -119,49 +119,83 @@ module _ (x : Scene) (slot : Slot) (flags : Flags) where
         let m = left_most x.log valid log_start in
         (omega arith, omega arith)
 
-    -- one step of the loop, which holds the run's progress
-    module _ (n : ℕ) (p : Progress) (is : p ≡ progress_of (run_to n)) (runs_on : is_running p.slot.mode ≡ true) (t : SlotStep)
-        (taken : t ≡ slot_step_on p) where
-      running : is_running (run_to n).slot.mode ≡ true
-      running = rw is at runs_on
+  -- the loop's end: the run has come to its own
+  pub runs_through : (n : ℕ) {lent now : List ℕ} {p : Progress} → run_to n ≡ full_slot_run x slot flags → p ≡ progress_of (run_to n)
+      → now ≡ written_into lent (run_to n).writes → RunsThrough x slot flags lent now p
+  runs_through n {lent} e is held = record {
+    at_run = is ∙ ap progress_of e;
+    lent = held ∙ ap (λ (r : SlotRun). written_into lent r.writes) e;
+  }
 
-      taken_is : t ≡ slot_step_from x (run_to n)
-      taken_is = taken ∙ ap slot_step_on is
+-- one turn of the loop: the run so far, as its progress and the lent entries hold it, and the step that the slot takes
+pub record Turn (x : Scene) (slot : Slot) (flags : Flags) (lent : List ℕ) (n : ℕ) (p : Progress) (now : List ℕ) (t : SlotStep) : Type 0 where
+  pub low : slot.ip.0 ≤ 512
+  pub valid : valid_log x.log ≡ true
+  pub enough : 340 ≤ length lent
+  pub more : n < full_steps x.family
+  pub is : p ≡ progress_of (run_to x slot flags n)
+  pub held : now ≡ written_into lent (run_to x slot flags n).writes
+  pub runs_on : is_running p.slot.mode ≡ true
+  pub taken : t ≡ slot_step_on x p
 
-      -- one that fetched nothing was stopped, and so is every later one
-      pub run_stopped : fetched_by t.effect ≡ 0 → n ≤ full_steps x.family → run_to n ≡ full_slot_run x slot flags
-      run_stopped none =
-          let next : next_slot_step x (run_to n) ≡ t =
-          (let e : next_slot_step x (run_to n) ≡ slot_step_from x (run_to n) = rw running refl in e) ∙ sym taken_is in
-          run_settled n (ap (λ (u : SlotStep). fetched_by u.effect) next ∙ none)
+module _ {x : Scene} {slot : Slot} {flags : Flags} {lent : List ℕ} {n : ℕ} {p : Progress} {now : List ℕ} {t : SlotStep}
+    (turn : Turn x slot flags lent n p now t) where
+  -- the run before the step, and after it
+  abbrev run_before : SlotRun
+  run_before = run_to x slot flags n
 
-      pub progress_after_lem : progress_after p t ≡ progress_of (run_to (suc n))
-      progress_after_lem = rw (taken_is, is) (sym (progress_took (run_to n) (slot_step_from x (run_to n))) ∙ sym (ap progress_of (run_next n running)))
+  abbrev run_after : SlotRun
+  run_after = run_to x slot flags (suc n)
 
-      writes_counted : p.writes ≡ length (run_to n).writes
-      writes_counted = ap (λ (q : Progress). q.writes) is
+  running : is_running run_before.slot.mode ≡ true
+  running = rw turn.is at turn.runs_on
 
-      writes_are : (run_to (suc n)).writes ≡ (run_to n).writes ++ wrote_by t.effect
-      writes_are = ap (λ (r : SlotRun). r.writes) (run_next n running) ∙ ap (λ (u : SlotStep). (run_to n).writes ++ wrote_by u.effect) (sym taken_is)
+  taken_is : t ≡ slot_step_from x run_before
+  taken_is = turn.taken ∙ ap (slot_step_on x) turn.is
 
-      module _ (lent now : List ℕ) (enough : 340 ≤ length lent) (held : now ≡ written_into lent (run_to n).writes) where
-        sized : length now ≡ length lent
-        sized = ap length held ∙ written_length lent (run_to n).writes (omega (arith, writes_small n))
+  -- a step that fetched nothing was stopped, and so is every later one
+  pub run_stopped : fetched_by t.effect ≡ 0 → run_before ≡ full_slot_run x slot flags
+  run_stopped none =
+      let next : next_slot_step x run_before ≡ t =
+      (let e : next_slot_step x run_before ≡ slot_step_from x run_before = rw running refl in e) ∙ sym taken_is in
+      run_settled x slot flags n (ap (λ (u : SlotStep). fetched_by u.effect) next ∙ none) (omega (arith, turn.more))
 
-        pub store_room : 2 * p.writes + 2 * length (wrote_by t.effect) ≤ length now
-        store_room = omega (arith, writes_counted, sized, writes_small (suc n), ap length writes_are, length-append (run_to n).writes (wrote_by t.effect))
+  pub progress_after_lem : progress_after p t ≡ progress_of run_after
+  progress_after_lem =
+      rw (taken_is, turn.is) (sym (progress_took run_before (slot_step_from x run_before)) ∙ sym (ap progress_of (run_next x slot flags n running)))
 
-        pub store_is : sets now (2 * p.writes) (entries_of (wrote_by t.effect)) ≡ written_into lent (run_to (suc n)).writes
-        store_is =
-            rw (held, writes_counted)
-            (written_more lent (run_to n).writes (wrote_by t.effect) (omega (arith, writes_small (suc n), ap length writes_are))
-            ∙ ap (written_into lent) (sym writes_are))
+  writes_counted : p.writes ≡ length run_before.writes
+  writes_counted = ap (λ (q : Progress). q.writes) turn.is
 
-      pub slot_step_fits : n ≤ 512 → (p.steps < 1024) × (p.writes < 1024) × (p.waited + t.waited < 2 ^ 64) × (p.searched + t.searched < 2 ^ 64)
-      slot_step_fits h =
-          let next = sums_small (suc n) in (
-            omega (arith, ap (λ (q : Progress). q.steps) is, steps_small n (omega arith)),
-            omega (arith, writes_counted, writes_small n),
-            omega (arith, ap (λ (q : Progress). q.waited) progress_after_lem, next.0),
-            omega (arith, ap (λ (q : Progress). q.searched) progress_after_lem, next.1),
-          )
+  writes_are : run_after.writes ≡ run_before.writes ++ wrote_by t.effect
+  writes_are =
+      ap (λ (r : SlotRun). r.writes) (run_next x slot flags n running)
+      ∙ ap (λ (u : SlotStep). run_before.writes ++ wrote_by u.effect) (sym taken_is)
+
+  room_before : 2 * length run_before.writes ≤ 340
+  room_before = writes_small x slot flags turn.low turn.valid n
+
+  room_after : 2 * length (run_before.writes ++ wrote_by t.effect) ≤ 340
+  room_after = omega (arith, writes_small x slot flags turn.low turn.valid (suc n), ap length writes_are)
+
+  sized : length now ≡ length lent
+  sized = ap length turn.held ∙ written_length lent run_before.writes (omega (arith, room_before, turn.enough))
+
+  pub store_room : 2 * p.writes + 2 * length (wrote_by t.effect) ≤ length now
+  store_room = omega (arith, writes_counted, sized, room_after, length-append run_before.writes (wrote_by t.effect), turn.enough)
+
+  pub store_is : sets now (2 * p.writes) (entries_of (wrote_by t.effect)) ≡ written_into lent run_after.writes
+  store_is =
+      rw (turn.held, writes_counted)
+      (written_more lent run_before.writes (wrote_by t.effect) (omega (arith, room_after, turn.enough))
+      ∙ ap (written_into lent) (sym writes_are))
+
+  pub slot_step_fits : (p.steps < 1024) × (p.writes < 1024) × (p.waited + t.waited < 2 ^ 64) × (p.searched + t.searched < 2 ^ 64)
+  slot_step_fits =
+      let next = sums_small x slot flags turn.low turn.valid (suc n) in
+      let few : n ≤ 512 = omega (arith, turn.more, size_small x.family) in (
+        omega (arith, ap (λ (q : Progress). q.steps) turn.is, steps_small x slot flags turn.low turn.valid n (omega (arith, few))),
+        omega (arith, writes_counted, room_before),
+        omega (arith, ap (λ (q : Progress). q.waited) progress_after_lem, next.0),
+        omega (arith, ap (λ (q : Progress). q.searched) progress_after_lem, next.1),
+      )

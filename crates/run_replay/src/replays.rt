@@ -103,7 +103,10 @@ fn take_slot_step(scene: Scene<'_>, progress: Progress) -> SlotStep
         result ≡ slot_step_of x.family x.enable progress.slot progress.flags x.log progress.place (fetch_in x progress.slot.ip.0) }
 {
     let Progress {
-        slot, flags, place, ..
+        slot,
+        flags,
+        place,
+        ..
     } = progress;
     let found = scene.ram.fetch(slot.ip);
     let Ok((instruction, length)) = found else {
@@ -206,7 +209,10 @@ fn told(last: Progress, clocks: &[u64]) -> Replayed
     ensures { result ≡ told_of clocks.now last }
 {
     let Progress {
-        slot, flags, place, ..
+        slot,
+        flags,
+        place,
+        ..
     } = last;
     Replayed {
         ending: ending_of(slot.mode),

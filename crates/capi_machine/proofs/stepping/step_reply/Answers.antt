@@ -3,4 +3,4 @@ use Rattle.capi_machine.proofs.stepping.step_reply.Goals as goal
 
 pub returns : goal.returns
 unfolding step_reply
-returns c = simp (c.effect_numbers-told.ensures, c.state_image-state.ensures)
+returns c = simp (c.effect_numbers-told.ensures, c.from-state.ensures)
