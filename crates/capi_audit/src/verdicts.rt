@@ -40,31 +40,33 @@ pub extern "C" fn hwsq_audit<'a>(
         },
         entry: CodeAddress(entry),
     };
-    audit_reply(audit_script::audit(script, ranges))
+    AuditReply::from(audit_script::audit(script, ranges))
 }
 
-fn audit_reply(verdict: Verdict) -> AuditReply
-    ensures { result ≡ audit_reply verdict }
-{
-    match verdict {
-        Verdict::Pass {
-            place,
-            count,
-            writes,
-            clocks,
-        } => AuditReply {
-            verdict: 0,
-            place: place.0,
-            count,
-            writes,
-            clocks,
-        },
-        Verdict::Fault(fault, place) => AuditReply {
-            verdict: u8::from(fault),
-            place: place.0,
-            count: 0,
-            writes: 0,
-            clocks: 0,
-        },
+impl From<Verdict> for AuditReply {
+    fn from(verdict: Verdict) -> AuditReply
+        ensures { result ≡ audit_reply verdict }
+    {
+        match verdict {
+            Verdict::Pass {
+                place,
+                count,
+                writes,
+                clocks,
+            } => AuditReply {
+                verdict: 0,
+                place: place.0,
+                count,
+                writes,
+                clocks,
+            },
+            Verdict::Fault(fault, place) => AuditReply {
+                verdict: u8::from(fault),
+                place: place.0,
+                count: 0,
+                writes: 0,
+                clocks: 0,
+            },
+        }
     }
 }

@@ -6,7 +6,7 @@ use isa::Instruction;
 use refusals::Unreadable;
 
 #[repr(C)]
-#[derive(Clone, Copy)]
+#[derive(Clone, Copy, Default)]
 pub struct DecodeReply {
     // 0, or why there is no instruction
     pub refusal: u8,
@@ -23,15 +23,17 @@ pub struct DecodeReply {
 pub extern "C" fn hwsq_decode(family: u8, bytes: &[u8]) -> DecodeReply
     ensures { HwsqDecode family bytes.now result }
 {
-    decode_reply(isa_reader::decode(family, bytes))
+    DecodeReply::from(isa_reader::decode(family, bytes))
 }
 
-fn decode_reply(found: Result<(Instruction, usize), Unreadable>) -> DecodeReply
-    ensures { result ≡ decode_reply found }
-{
-    match found {
-        Ok((instruction, length)) => instruction_reply(instruction, length),
-        Err(why) => unread(u8::from(why)),
+impl From<Result<(Instruction, usize), Unreadable>> for DecodeReply {
+    fn from(found: Result<(Instruction, usize), Unreadable>) -> DecodeReply
+        ensures { result ≡ decode_reply found }
+    {
+        match found {
+            Ok((instruction, length)) => instruction_reply(instruction, length),
+            Err(why) => unread(u8::from(why)),
+        }
     }
 }
 
@@ -40,10 +42,7 @@ fn unread(refusal: u8) -> DecodeReply
 {
     DecodeReply {
         refusal,
-        kind: 0,
-        first: 0,
-        second: 0,
-        length: 0,
+        ..DecodeReply::default()
     }
 }
 

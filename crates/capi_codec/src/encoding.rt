@@ -36,18 +36,20 @@ pub extern "C" fn hwsq_encode(
     ensures { HwsqEncode family kind first second out.old out.new result }
 {
     match named_by(kind, first, second) {
-        Ok(instruction) => encoded_reply(isa_writer::encode(family, instruction, out)),
+        Ok(instruction) => EncodeReply::from(isa_writer::encode(family, instruction, out)),
         Err(Unnamed::Wide) => unwritten(wide_number(family)),
         Err(Unnamed::Unknown) => unwritten(unnamed_number(family)),
     }
 }
 
-fn encoded_reply(answer: Result<usize, Unwritable>) -> EncodeReply
-    ensures { result ≡ encoded_reply answer }
-{
-    match answer {
-        Ok(length) => EncodeReply { refusal: 0, length },
-        Err(why) => unwritten(u8::from(why)),
+impl From<Result<usize, Unwritable>> for EncodeReply {
+    fn from(answer: Result<usize, Unwritable>) -> EncodeReply
+        ensures { result ≡ encoded_reply answer }
+    {
+        match answer {
+            Ok(length) => EncodeReply { refusal: 0, length },
+            Err(why) => unwritten(u8::from(why)),
+        }
     }
 }
 

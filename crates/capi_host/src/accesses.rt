@@ -29,7 +29,7 @@ pub struct ReadReply {
 pub extern "C" fn hwsq_fresh(family: u8) -> AccessReply
     ensures { HwsqFresh family result }
 {
-    access_reply(host_fresh::fresh_state(family))
+    AccessReply::from(host_fresh::fresh_state(family))
 }
 
 // The state after the host writes a word at an address.
@@ -37,7 +37,7 @@ pub extern "C" fn hwsq_fresh(family: u8) -> AccessReply
 pub extern "C" fn hwsq_write(state: StateImage, address: u32, word: u32) -> AccessReply
     ensures { HwsqWrite state address word result }
 {
-    access_reply(host_access::write_register(State::from(state), MmioAddress(address), word))
+    AccessReply::from(host_access::write_register(State::from(state), MmioAddress(address), word))
 }
 
 // The word that the host reads at an address.
@@ -45,30 +45,34 @@ pub extern "C" fn hwsq_write(state: StateImage, address: u32, word: u32) -> Acce
 pub extern "C" fn hwsq_read(state: StateImage, address: u32) -> ReadReply
     ensures { HwsqRead state address result }
 {
-    read_reply(host_access::read_register(State::from(state), MmioAddress(address)))
+    ReadReply::from(host_access::read_register(State::from(state), MmioAddress(address)))
 }
 
-fn read_reply(reading: Result<u32, Inaccessible>) -> ReadReply
-    ensures { result ≡ read_reply reading }
-{
-    match reading {
-        Ok(word) => ReadReply { refusal: 0, word },
-        Err(why) => ReadReply {
-            refusal: u8::from(why),
-            word: 0,
-        },
+impl From<Result<u32, Inaccessible>> for ReadReply {
+    fn from(reading: Result<u32, Inaccessible>) -> ReadReply
+        ensures { result ≡ read_reply reading }
+    {
+        match reading {
+            Ok(word) => ReadReply { refusal: 0, word },
+            Err(why) => ReadReply {
+                refusal: u8::from(why),
+                word: 0,
+            },
+        }
     }
 }
 
-fn access_reply(access: Access) -> AccessReply
-    ensures { result ≡ access_reply access }
-{
-    let state = StateImage::from(access.state);
-    match access.outcome {
-        Ok(()) => AccessReply { refusal: 0, state },
-        Err(why) => AccessReply {
-            refusal: u8::from(why),
-            state,
-        },
+impl From<Access> for AccessReply {
+    fn from(access: Access) -> AccessReply
+        ensures { result ≡ access_reply access }
+    {
+        let state = StateImage::from(access.state);
+        match access.outcome {
+            Ok(()) => AccessReply { refusal: 0, state },
+            Err(why) => AccessReply {
+                refusal: u8::from(why),
+                state,
+            },
+        }
     }
 }

@@ -54,7 +54,7 @@ pub extern "C" fn hwsq_step<'a>(
 ) -> StepReply
     ensures { HwsqStep state slot (log_of clocks.now known.now values.now) row used result }
 {
-    step_reply(machine_step::step(
+    StepReply::from(machine_step::step(
         State::from(state),
         slot_named(slot),
         Log {
@@ -84,34 +84,38 @@ fn numbers(refusal: u8, kind: u8, why: u8, address: MmioAddress, word: u32) -> E
     }
 }
 
-fn effect_numbers(effect: Effect) -> EffectNumbers
-    ensures { result ≡ effect_numbers effect }
-{
-    let nowhere = MmioAddress(0);
-    match effect {
-        Effect::Refused(why) => numbers(u8::from(why), 0, 0, nowhere, 0),
-        Effect::Nothing => numbers(0, 0, 0, nowhere, 0),
-        Effect::Stopped(why) => numbers(0, 1, u8::from(why), nowhere, 0),
-        Effect::Unknown => numbers(0, 2, 0, nowhere, 0),
-        Effect::Done => numbers(0, 3, 0, nowhere, 0),
-        Effect::Wrote(address, word) => numbers(0, 4, 0, address, word),
+impl From<Effect> for EffectNumbers {
+    fn from(effect: Effect) -> EffectNumbers
+        ensures { result ≡ effect_numbers effect }
+    {
+        let nowhere = MmioAddress(0);
+        match effect {
+            Effect::Refused(why) => numbers(u8::from(why), 0, 0, nowhere, 0),
+            Effect::Nothing => numbers(0, 0, 0, nowhere, 0),
+            Effect::Stopped(why) => numbers(0, 1, u8::from(why), nowhere, 0),
+            Effect::Unknown => numbers(0, 2, 0, nowhere, 0),
+            Effect::Done => numbers(0, 3, 0, nowhere, 0),
+            Effect::Wrote(address, word) => numbers(0, 4, 0, address, word),
+        }
     }
 }
 
-fn step_reply(stepped: Stepped) -> StepReply
-    ensures { result ≡ step_reply stepped }
-{
-    let told = effect_numbers(stepped.effect);
-    StepReply {
-        refusal: told.refusal,
-        effect: told.kind,
-        why: told.why,
-        address: told.address,
-        word: told.word,
-        row: stepped.place.row,
-        used: stepped.place.used,
-        waited: stepped.waited,
-        searched: stepped.searched,
-        state: StateImage::from(stepped.state),
+impl From<Stepped> for StepReply {
+    fn from(stepped: Stepped) -> StepReply
+        ensures { result ≡ step_reply stepped }
+    {
+        let told = EffectNumbers::from(stepped.effect);
+        StepReply {
+            refusal: told.refusal,
+            effect: told.kind,
+            why: told.why,
+            address: told.address,
+            word: told.word,
+            row: stepped.place.row,
+            used: stepped.place.used,
+            waited: stepped.waited,
+            searched: stepped.searched,
+            state: StateImage::from(stepped.state),
+        }
     }
 }

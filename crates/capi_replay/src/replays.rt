@@ -13,7 +13,7 @@ use run::{Registers, Replayed};
 use script::Script;
 
 #[repr(C)]
-#[derive(Clone, Copy)]
+#[derive(Clone, Copy, Default)]
 pub struct ReplayReply {
     // 0, or why there was no run
     pub refusal: u8,
@@ -77,15 +77,17 @@ pub extern "C" fn hwsq_replay<'a>(
         known,
         values,
     };
-    replay_reply(run_replay::replay(script, registers, log, writes))
+    ReplayReply::from(run_replay::replay(script, registers, log, writes))
 }
 
-fn replay_reply(answer: Result<Replayed, Unreplayable>) -> ReplayReply
-    ensures { result ≡ replay_reply answer }
-{
-    match answer {
-        Ok(told) => ended_reply(told),
-        Err(why) => unreplayed(u8::from(why)),
+impl From<Result<Replayed, Unreplayable>> for ReplayReply {
+    fn from(answer: Result<Replayed, Unreplayable>) -> ReplayReply
+        ensures { result ≡ replay_reply answer }
+    {
+        match answer {
+            Ok(told) => ReplayReply::from(told),
+            Err(why) => unreplayed(u8::from(why)),
+        }
     }
 }
 
@@ -94,39 +96,29 @@ fn unreplayed(refusal: u8) -> ReplayReply
 {
     ReplayReply {
         refusal,
-        ending: 0,
-        addr: 0,
-        data: 0,
-        flags_0: 0,
-        flags_1: 0,
-        ip: 0,
-        row: 0,
-        used: 0,
-        steps: 0,
-        writes: 0,
-        waited: 0,
-        searched: 0,
-        left: 0,
+        ..ReplayReply::default()
     }
 }
 
-fn ended_reply(told: Replayed) -> ReplayReply
-    ensures { result ≡ ended_reply told }
-{
-    ReplayReply {
-        refusal: 0,
-        ending: u8::from(told.ending),
-        addr: told.addr.0,
-        data: told.data,
-        flags_0: told.flags_0,
-        flags_1: told.flags_1,
-        ip: told.ip.0,
-        row: told.place.row,
-        used: told.place.used,
-        steps: told.steps,
-        writes: told.writes,
-        waited: told.waited,
-        searched: told.searched,
-        left: told.left,
+impl From<Replayed> for ReplayReply {
+    fn from(told: Replayed) -> ReplayReply
+        ensures { result ≡ ended_reply told }
+    {
+        ReplayReply {
+            refusal: 0,
+            ending: u8::from(told.ending),
+            addr: told.addr.0,
+            data: told.data,
+            flags_0: told.flags_0,
+            flags_1: told.flags_1,
+            ip: told.ip.0,
+            row: told.place.row,
+            used: told.place.used,
+            steps: told.steps,
+            writes: told.writes,
+            waited: told.waited,
+            searched: told.searched,
+            left: told.left,
+        }
     }
 }

@@ -12,7 +12,7 @@ use refusals::Unshowable;
 use script::Script;
 
 #[repr(C)]
-#[derive(Clone, Copy)]
+#[derive(Clone, Copy, Default)]
 pub struct WitnessReply {
     // 0, 9 or 14
     pub refusal: u8,
@@ -53,15 +53,17 @@ pub extern "C" fn hwsq_witness<'a>(
         },
         entry: CodeAddress(entry),
     };
-    witness_reply(audit_witness::witness(script, ranges, clocks, known, values))
+    WitnessReply::from(audit_witness::witness(script, ranges, clocks, known, values))
 }
 
-fn witness_reply(answer: Result<Shown, Unshowable>) -> WitnessReply
-    ensures { result ≡ witness_reply answer }
-{
-    match answer {
-        Ok(shown) => shown_reply(shown),
-        Err(why) => unshown_reply(u8::from(why)),
+impl From<Result<Shown, Unshowable>> for WitnessReply {
+    fn from(answer: Result<Shown, Unshowable>) -> WitnessReply
+        ensures { result ≡ witness_reply answer }
+    {
+        match answer {
+            Ok(shown) => WitnessReply::from(shown),
+            Err(why) => unshown_reply(u8::from(why)),
+        }
     }
 }
 
@@ -72,18 +74,18 @@ fn second_word(matters: bool) -> u32
     if matters { 65536 } else { 0 }
 }
 
-fn shown_reply(shown: Shown) -> WitnessReply
-    ensures { result ≡ shown_reply shown }
-{
-    match shown.verdict {
-        Verdict::Pass {
-            place,
-            count,
-            clocks,
-            ..
-        } => told_reply(0, place, count, clocks, shown),
-        Verdict::Fault(fault, place) => {
-            told_reply(u8::from(fault), place, 0, 0, shown)
+impl From<Shown> for WitnessReply {
+    fn from(shown: Shown) -> WitnessReply
+        ensures { result ≡ shown_reply shown }
+    {
+        match shown.verdict {
+            Verdict::Pass {
+                place,
+                count,
+                clocks,
+                ..
+            } => told_reply(0, place, count, clocks, shown),
+            Verdict::Fault(fault, place) => { told_reply(u8::from(fault), place, 0, 0, shown) }
         }
     }
 }
@@ -117,13 +119,6 @@ fn unshown_reply(refusal: u8) -> WitnessReply
     WitnessReply {
         refusal,
         verdict: refusal, // 0 would be a pass
-        addr: 0,
-        data: 0,
-        place: 0,
-        count: 0,
-        clocks: 0,
-        rows: 0,
-        steps: 0,
-        writes: 0,
+        ..WitnessReply::default()
     }
 }

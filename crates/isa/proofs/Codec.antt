@@ -16,7 +16,6 @@ use Rattle.isa.specs.Codec.{InType, OneSpelling}
 use Rattle.isa.specs.declared.instructions.Instruction.{Instruction}
 use Rattle.isa.specs.declared.opcodes.Opcode.{Opcode}
 use Rattle.isa.specs.Answers.{Decoded}
-use Rattle.isa.specs.Answers.{Encoded}
 use Rattle.families.proofs.Tests.{cond_elim, bounds}
 use Rattle.isa.proofs.Bytes.{respell, reread}
 use Rattle.isa.proofs.OpcodeLaws as op

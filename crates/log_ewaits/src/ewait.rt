@@ -31,7 +31,9 @@ pub fn event_wait(log: Log<'_>, at: Place, event: u8, value: u8) -> Released
     let mut used = at.used;
     let mut passed: u64 = 0;
     for row in at.row..log.clocks.len() {
-        if has_reading(mask_at(log.known, row), mask_at(log.values, row), event, value) {
+        let known = mask_at(log.known, row);
+        let values = mask_at(log.values, row);
+        if has_reading(known, values, event, value) {
             return Released::At(Place { row, used }, passed);
         }
         passed = passed.wrapping_add(unused(log.clocks[row], used));

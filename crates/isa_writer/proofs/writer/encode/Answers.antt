@@ -11,8 +11,6 @@ use Rattle.isa.specs.Reader.{decode_of}
 use Rattle.isa.specs.Writer.{opcode_of, on_family, operands_fit, spell, encode_of, encoded_number}
 use Rattle.isa.specs.Codec.{Writes}
 use Rattle.isa.specs.declared.instructions.Instruction.{Instruction}
-use Rattle.isa.specs.Answers.{Decoded}
-use Rattle.isa.specs.Answers.{Encoded}
 use Rattle.refusals.specs.declared.refusals.Unwritable.{Unwritable}
 use Rattle.isa.proofs.Codec.{Writable, reads_back}
 use Rattle.isa.proofs.Writing.{no_family, not_on, bad_operand, no_room, written, write_numbered}
