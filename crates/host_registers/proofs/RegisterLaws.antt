@@ -1,4 +1,4 @@
--- Where registers stand, from facts on numbers, and which families have a slot B. Assumes nothing.
+-- Which families have a slot B, and that code registers have room. Assumes nothing.
 use Prim.Native.Nat.{ℕ, zero, suc, ◌-◌, ◌%◌, ◌≤◌}
 use mathlib.Core.Path.{◌≡◌, refl}
 use mathlib.Core.Bool.{true, false, ◌&&◌}
@@ -6,25 +6,11 @@ use native.Mathlib.Omega.{arith}
 use lib.Dec.{ltb, eqb}
 use borrow.Author.Tests.{ltb-true, eqb-true}
 use Rattle.families.specs.Family.{by_family, code_size, within}
-use Rattle.families.proofs.Tests.{cond_elim, inside, outside, both_left, both_right}
+use Rattle.families.proofs.Tests.{cond_elim, both_left, both_right}
 use Rattle.isa.specs.declared.addresses.MmioAddress.{MmioAddress}
 use Rattle.machine_state.specs.Slot.{has_slot}
 use Rattle.machine_state.specs.declared.slots.SlotName.{SlotName}
 use Rattle.host_registers.specs.Register.{is_high, high_window, code_in, code_at, register_at, InRoom}
-use Rattle.host_registers.specs.declared.registers.Register.{Register}
-
-module _ (family at : ℕ) where
-  pub in_code : 0x001400 ≤ at → at ≤ 0x0014ff → code_in (code_size family) (at - 0x001400) ≡ code_at family at
-  unfolding code_at
-  in_code h k = simp (inside 0x001400 at 0x0014ff h k)
-
-  pub in_new_code : 0x080000 ≤ at → at ≤ 0x0801ff → code_in (high_window family) (at - 0x080000) ≡ code_at family at
-  unfolding code_at
-  in_new_code h k = simp (outside 0x001400 at 0x0014ff (omega arith), inside 0x080000 at 0x0801ff h k)
-
-  pub in_neither : (0x001400 ≤ at → at ≤ 0x0014ff → ⊥) → (0x080000 ≤ at → at ≤ 0x0801ff → ⊥) → Register.Unlisted ≡ code_at family at
-  unfolding code_at
-  in_neither h k = simp (outside 0x001400 at 0x0014ff h, outside 0x080000 at 0x0801ff k)
 
 -- ---- which families have a slot B
 
