@@ -98,6 +98,7 @@ fn effect_numbers(effect: Effect) -> EffectNumbers
     }
 }
 
+#[tactic(auto, unfolding(crate::specs::Stepping::step_reply))]
 fn step_reply(stepped: Stepped) -> StepReply
     ensures { result ≡ step_reply stepped }
 {
