@@ -1,1 +1,2 @@
+pub mod Audited
 pub mod Walking

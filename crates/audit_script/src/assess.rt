@@ -42,6 +42,7 @@ fn judge_poke(ranges: &[u32], target: Option<MmioAddress>, halves: bool) -> Judg
 }
 
 // Whether some reading can release such an ewait.
+#[tactic(auto, unfolding(audit_verdict::specs::Auditor::can_release))]
 fn can_release(event: u8, value: u8) -> bool
     ensures { result ≡ can_release event value }
 {

@@ -1,5 +1,5 @@
 // The auditor: reads a script from its entry to the first exit and tells the first fault.
-ghost use Rattle.std.specs.Prelude.{◌≡◌, true};
+ghost use Rattle.std.specs.Prelude.{◌≡◌, true, ℕ, ◌<◌, slice_index};
 ghost use Rattle.refusals.specs.Number.{unreadable_number, fault_number};
 ghost use Rattle.script.specs.Script.{lent_script};
 ghost use Rattle.script.specs.Input.{input_fits};
@@ -16,10 +16,17 @@ use script::{Script, ranges_fit};
 pub fn audit(script: Script<'_>, ranges: &[u32]) -> Verdict
     ensures { Audits (lent_script script.entry) ranges.now result }
 {
+    are_bytes(script.ram.code);
     if !script.fits() || !ranges_fit(ranges) {
         return Verdict::Fault(Fault::Input, CodeAddress(0));
     }
     walk(script, ranges)
+}
+
+// Does nothing: of a slice that is a parameter a proof knows that its elements are bytes, and of one in a struct it does not.
+fn are_bytes(code: &[u8])
+    ensures { (i : ℕ) → slice_index code.now i < 256 }
+{
 }
 
 // Why there is no instruction, as the fault with the reader's number.

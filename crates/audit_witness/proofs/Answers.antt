@@ -1,18 +1,17 @@
 -- What `witness` answers, case by case. Assumes nothing.
 use Rattle.std.specs.Prelude.{Ok, Err}
-use Prim.Native.Nat.{ℕ, ◌+◌, ◌≤◌, ◌<◌}
+use Prim.Native.Nat.{ℕ, ◌+◌, ◌<◌}
 use mathlib.Core.Path.{◌≡◌, refl, ap, subst}
 use mathlib.Core.Logic.{⊎_elim}
 use mathlib.Core.Bool.{true, false, and-false}
 use mathlib.Core.List.{List}
 use native.Mathlib.Omega.{arith}
 use lib.Dec.{leb, eqb}
-use lib.ListN.{length, length-map}
+use lib.ListN.{length}
 use borrow.Author.Tests.{le-leb, lt-leb, eqb-true}
 use Rattle.refusals.specs.declared.refusals.Fault.{Fault}
 use Rattle.refusals.specs.declared.refusals.Unshowable.{Unshowable}
 use Rattle.event_log.specs.Log.{Log}
-use Rattle.event_log.specs.declared.row.Row.{Row}
 use Rattle.event_log.proofs.Columns.{Room, rows_first}
 use Rattle.script.specs.Script.{Script}
 use Rattle.script.specs.Input.{input_fits}
@@ -91,10 +90,6 @@ module _ (x : Script) (ranges : List ℕ) where
         (a : Audits x ranges v) (f : Follows (way x ranges) lent new made) where
       shown : OwnLogShows x ranges (audit_of x ranges)
       shown = subst (Witnessed x ranges) a.answered a.witnessed i
-
-      -- so its rows are few
-      pub rows_fit : made.before + 1 ≤ max_shown
-      rows_fit = omega (arith, f.counted, length-map (rows x ranges lent) (λ (row : Row). row.clocks), shown.few)
 
       pub answers : Witnesses x ranges lent new
           (Ok (record { verdict = v; rows = made.before + 1; steps = made.steps; writes = made.writes }))

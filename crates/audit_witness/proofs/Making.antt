@@ -1,19 +1,17 @@
 -- The log that is made row by row, against the rows that the script's way asks for. Assumes nothing.
 use Rattle.std.specs.Prelude.{Ok, Err}
-use Prim.Native.Nat.{ℕ, ◌+◌, ◌*◌, ◌^◌, ◌≤◌, ◌<◌}
+use Prim.Native.Nat.{ℕ, ◌+◌, ◌*◌, ◌≤◌, ◌<◌}
 use mathlib.Core.Path.{◌≡◌, refl, sym, ap, ap₂, subst, ◌∙◌}
-use mathlib.Core.Bool.{true, false}
+use mathlib.Core.Bool.{true}
 use mathlib.Core.List.{List, [], ◌∷◌, ◌++◌, append_assoc}
-use native.Mathlib.Nat.{add-zero}
 use native.Mathlib.Omega.{arith}
-use lib.ListN.{length, get_or, length-append, length-set}
-use denote.Enum.Declared.{tag_of}
-use types.Run.{OneOf}
+use lib.ListN.{length, get_or, length-append}
 use Rattle.families.specs.Family.{code_size}
 use Rattle.isa.specs.declared.instructions.Instruction.{Instruction}
 use Rattle.isa.specs.Answers.{Decoded}
 use Rattle.families.proofs.Tests.{both_left}
 use Rattle.refusals.specs.declared.refusals.Unreadable.{Unreadable}
+use Rattle.isa_fetch.specs.Fetch.{Fetches}
 use Rattle.isa_fetch.proofs.Places.{size_small}
 use Rattle.event_log.specs.Log.{Log}
 use Rattle.event_log.specs.Rows.{rows_into, with_rows_at}
@@ -21,57 +19,21 @@ use Rattle.event_log.specs.declared.row.Row.{Row}
 use Rattle.event_log.proofs.Columns.{Room, SameLengths, rows_lengths, rows_more}
 use Rattle.machine_actions.specs.Action.{action_of}
 use Rattle.machine_actions.specs.declared.actions.Action.{Action}
-use Rattle.machine_actions.specs.declared.actions.Part.{Part}
-use Rattle.machine_actions.proofs.Variants.{no_such}
-use Rattle.machine_actions.specs.contracts.actions.Action.{the_type as action_type}
 use Rattle.script.specs.Script.{Script, fetch_at}
 use Rattle.script.specs.Input.{script_fits, ranges_fit, input_fits}
 use Rattle.script.proofs.Scripts.{fits_script, Reads}
-use Rattle.audit_verdict.specs.Auditor.{Releasable, wait_length, know_next, know_nothing, audit_of}
-use Rattle.audit_verdict.specs.Witness.{first_row, event_row, releases, row_after, rows_ended, rows_over, writes_over, place_of, max_shown}
+use Rattle.audit_verdict.specs.Auditor.{know_next, know_nothing, audit_of}
+use Rattle.audit_verdict.specs.Witness.{first_row, row_after, rows_ended, rows_over, writes_over, place_of, max_shown}
 use Rattle.audit_verdict.specs.declared.verdicts.Knowledge.{Knowledge}
 use Rattle.audit_script.proofs.Walking.{poke_small}
 use Rattle.audit_verdict.proofs.Cases.{never}
 use Rattle.audit_verdict.proofs.Judging.{Fine}
 use Rattle.audit_verdict.proofs.Walk.{Walk, here, further, actions_of, walk_forward, way_is}
 use Rattle.audit_verdict.proofs.Claim.{audit_walked}
-use Rattle.audit_verdict.proofs.WitnessLog.{StaysBelow, bounded_next, bounded_start, wait_short, RowFits, first_fits, row_fits_after, reads_size}
+use Rattle.audit_verdict.proofs.WitnessLog.{StaysBelow, bounded_next, bounded_start, RowFits, first_fits, row_fits_after, reads_size}
 use Rattle.audit_witness.specs.Witnesses.{way}
-use Rattle.audit_witness.specs.Inside.{with_row, timeline_of, nothing_made, made_after, Extends, Follows}
+use Rattle.audit_witness.specs.Inside.{with_row, nothing_made, made_after, Extends, Follows}
 use Rattle.audit_witness.specs.declared.rows.Timeline.{Timeline}
-
--- ---- one instruction
-
--- one step more, in this row, with so many rows before it
-abbrev stepped : Timeline → Row → ℕ → ℕ → Timeline
-stepped made row before writes = timeline_of row before (made.steps + 1) writes
-
-module _ (made : Timeline) (old : Log) {answer : Timeline} where
-  pub extends_wait : (action : Action) (n : ℕ) → action ≡ Action.Wait n → {row : Row} → row ≡ row_after (Action.Wait n) made.row
-      → answer ≡ stepped made row made.before made.writes → Extends action made old old answer
-  extends_wait action n e r told = rw (e, told, r) (record { made_is = simp add-zero; put = refl })
-
-  pub extends_released : (action : Action) (event value : ℕ) → action ≡ Action.Ewait event value → releases made.row event value ≡ true
-      → answer ≡ stepped made made.row made.before made.writes → Extends action made old old answer
-  extends_released action event value e t told = rw (e, told) (record { made_is = simp (t, add-zero); put = rw t refl })
-
-  pub extends_begun : (action : Action) (event value : ℕ) → action ≡ Action.Ewait event value → releases made.row event value ≡ false
-      → {row : Row} {new : Log} → row ≡ event_row event value → new ≡ with_row old made.before made.row
-      → answer ≡ stepped made row (made.before + 1) made.writes → Extends action made old new answer
-  extends_begun action event value e t r p told = rw (e, told, r) (record { made_is = simp (t, add-zero); put = p ∙ rw t refl })
-
-  pub extends_poke : (action : Action) (part : Part) (word : ℕ) → action ≡ Action.Poke part word
-      → answer ≡ stepped made made.row made.before (made.writes + 1) → Extends action made old old answer
-  extends_poke action part word e told = rw (e, told) (record { made_is = simp add-zero; put = refl })
-
-  pub extends_other : (action : Action) → OneOf (2 ∷ 3 ∷ 5 ∷ []) (tag_of action_type action)
-      → answer ≡ stepped made made.row made.before made.writes → Extends action made old old answer
-  extends_other (Action.Wait n) h told = no_such (2 ∷ 3 ∷ 5 ∷ []) 0 tt h
-  extends_other (Action.Ewait event value) h told = no_such (2 ∷ 3 ∷ 5 ∷ []) 1 tt h
-  extends_other (Action.Flag change flag) h told = rw told (record { made_is = simp add-zero; put = refl })
-  extends_other (Action.Load part word) h told = rw told (record { made_is = simp add-zero; put = refl })
-  extends_other (Action.Poke part word) h told = no_such (2 ∷ 3 ∷ 5 ∷ []) 4 tt h
-  extends_other Action.Exit h told = rw told (record { made_is = simp add-zero; put = refl })
 
 -- ---- the walk to the place, one instruction at a time
 
@@ -92,8 +54,9 @@ module _ {x : Script} {ranges : List ℕ} where
       → fetch_at x p ≡ Ok (i, n) → Next w (action_of i) n
   next_of here apart i n f = absurd (apart refl)
   next_of (further action m e g w) apart i n f =
-      let which : i ≡ e.instruction = cc e.found in
-      let size : n ≡ m = cc e.found in
+      let same : (i, n) ≡ (e.instruction, m) = cc e.found in
+      let which : i ≡ e.instruction = ap (λ (p : Instruction × ℕ). p.0) same in
+      let size : n ≡ m = ap (λ (p : Instruction × ℕ). p.1) same in
       let acts : action_of i ≡ action = ap action_of which ∙ e.acts in
       rw (acts, size) (record { reads = e; fine = g; rest = w; is = refl })
 
@@ -108,6 +71,7 @@ less_room r h = record { clocks = omega (arith, r.clocks); known = omega (arith,
 
 -- at a place: the rows that were put, and those that the rest of the walk asks for, are the log; and what is counted stays small
 pub record Making (x : Script) (ranges : List ℕ) (place : ℕ) (way : List Action) (lent log : Log) (at : ℕ) (made : Timeline) : Type 0 where
+  pub room : Room max_shown lent
   pub knows : Knowledge
   pub last : Knowledge
   pub walk : Walk x ranges at knows place last
@@ -124,9 +88,10 @@ pub record Making (x : Script) (ranges : List ℕ) (place : ℕ) (way : List Act
   pub row_fits : RowFits knows.clocks made.row
   pub put : log ≡ rows_into lent before
 
-pub making_first : {x : Script} {ranges : List ℕ} {place entry : ℕ} {l : Knowledge} (w : Walk x ranges entry know_nothing place l) (lent : Log)
-    → entry ≤ 511 → Making x ranges place (actions_of w) lent lent entry nothing_made
-making_first {l = l} w lent h = record {
+pub making_first : {x : Script} {ranges : List ℕ} {place entry : ℕ} {l : Knowledge} (w : Walk x ranges entry know_nothing place l) {lent : Log}
+    → Room max_shown lent → entry ≤ 511 → Making x ranges place (actions_of w) lent lent entry nothing_made
+making_first {l = l} w room h = record {
+  room = room;
   knows = know_nothing;
   last = l;
   walk = w;
@@ -145,35 +110,31 @@ making_first {l = l} w lent h = record {
 }
 
 -- the loop begins so, on its way to the verdict's place
-pub making_begins : (x : Script) (ranges : List ℕ) → ((i : ℕ) → get_or x.code i 0 < 2 ^ 8) → input_fits x ranges ≡ true
-    → (lent : Log) {place : ℕ} {made : Timeline} → place ≡ place_of (audit_of x ranges) → made ≡ nothing_made
-    → Making x ranges place (way x ranges) lent lent x.entry made
-making_begins x ranges bytes fits lent there nothing =
-    let w = (audit_walked x ranges bytes fits).walk in
-    let low = (fits_script x (both_left (script_fits x) (ranges_fit ranges) fits)).entry_low in
-    rw (there, nothing, way_is (code_size x.family) w (omega arith)) (making_first w lent low)
+pub making_begins : (x : Script) (ranges : List ℕ) {place : ℕ} (lent : Log)
+    → (input_fits x ranges ≡ true) × (place ≡ place_of (audit_of x ranges))
+        × (max_shown ≤ length lent.clocks) × (max_shown ≤ length lent.known) × (max_shown ≤ length lent.values)
+        × ((i : ℕ) → get_or x.code i 0 < 256)
+    → {made : Timeline} → made ≡ nothing_made → Making x ranges place (way x ranges) lent lent x.entry made
+making_begins x ranges lent needs nothing =
+    let w = (audit_walked x ranges needs.5 needs.0).walk in
+    let low = (fits_script x (both_left (script_fits x) (ranges_fit ranges) needs.0)).entry_low in
+    let room : Room max_shown lent = record { clocks = needs.2; known = needs.3; values = needs.4 } in
+    rw (needs.1, nothing, way_is (code_size x.family) w (omega arith)) (making_first w room low)
 
 module _ {x : Script} {ranges : List ℕ} {place : ℕ} {all : List Action} {lent log : Log} {at : ℕ} {made : Timeline}
-    (g : Making x ranges place all lent log at made) (room : Room max_shown lent) where
+    (g : Making x ranges place all lent log at made) where
   few : length g.before ≤ 170
   few = omega (arith, g.three_bytes, g.low)
 
   pub same_lengths : SameLengths lent log
-  same_lengths = subst (SameLengths lent) (sym g.put) (rows_lengths lent g.before (less_room room (omega (arith, few))))
-
-  -- the next row has a place in each column
-  pub place_left : (made.before < length log.clocks) × (made.before < length log.known) × (made.before < length log.values)
-  place_left =
-      let s = same_lengths in
-      let small : made.before ≤ 170 = omega (arith, few, g.counted) in
-      (omega (arith, small, s.clocks, room.clocks), omega (arith, small, s.known, room.known), omega (arith, small, s.values, room.values))
+  same_lengths = subst (SameLengths lent) (sym g.put) (rows_lengths lent g.before (less_room g.room (omega (arith, few))))
 
   put_after : (rows : List Row) → length g.before + length rows ≤ max_shown → with_rows_at log made.before rows ≡ rows_into lent (g.before ++ rows)
-  put_after rows h = ap₂ (λ (l : Log) (n : ℕ). with_rows_at l n rows) g.put g.counted ∙ rows_more lent g.before rows (less_room room h)
+  put_after rows h = ap₂ (λ (l : Log) (n : ℕ). with_rows_at l n rows) g.put g.counted ∙ rows_more lent g.before rows (less_room g.room h)
 
   -- at the place the present row is the last
-  last_put : at ≡ place → {new : Log} → new ≡ with_row log made.before made.row → Follows all lent new made
-  last_put same {new} p =
+  pub making_over : at ≡ place → {new : Log} → new ≡ with_row log made.before made.row → Follows all lent new made
+  making_over same {new} p =
       let none_left = walked_over g.walk same in
       let rows_are : g.before ++ (made.row ∷ []) ≡ rows_over all first_row
       = ap (λ (actions : List Action). g.before ++ rows_over actions made.row) (sym none_left) ∙ g.same_rows in
@@ -184,71 +145,52 @@ module _ {x : Script} {ranges : List ℕ} {place : ℕ} {all : List Action} {len
         put = p ∙ put_after (made.row ∷ []) (omega (arith, few)) ∙ ap (rows_into lent) rows_are;
       }
 
-  pub making_over : at ≡ place → {new : Log} {last : Timeline} → last ≡ made → new ≡ with_row log last.before last.row → Follows all lent new last
-  making_over same {new} {last} e p =
-      subst (Follows all lent new) (sym e) (last_put same (p ∙ ap (λ (t : Timeline). with_row log t.before t.row) e))
+  -- before it the fetch gives an instruction
+  module _ (apart : at ≡ place → ⊥) {answer : Decoded} (fetched : Fetches x.family x.code x.marks at answer) where
+    pub making_fetched : {why : Unreadable} → answer ≡ Err why → ⊥
+    making_fetched {why} is = never_refused g.walk apart why (sym fetched.answered ∙ is)
 
-  pub lengths_over : {new : Log} (n : ℕ) (row : Row) → new ≡ with_row log n row → SameLengths lent new
-  lengths_over n row p =
-      let s = same_lengths in
-      rw p (record {
-        clocks = length-set log.clocks n row.clocks ∙ s.clocks;
-        known = length-set log.known n row.known ∙ s.known;
-        values = length-set log.values n row.values ∙ s.values;
-      })
+    module _ {i : Instruction} {n : ℕ} (is : answer ≡ Ok (i, n)) where
+      abbrev action : Action
+      action = action_of i
 
-  -- before it one instruction more is done
-  module _ (apart : at ≡ place → ⊥) (i : Instruction) (n : ℕ) (f : fetch_at x at ≡ Ok (i, n)) where
-    abbrev action : Action
-    action = action_of i
+      step : Next g.walk action n
+      step = next_of g.walk apart i n (sym fetched.answered ∙ is)
 
-    step : Next g.walk action n
-    step = next_of g.walk apart i n f
+      pub inside : (0 < n) × (at + n ≤ 512)
+      inside = let e = step.reads in (e.some, omega (arith, e.inside, size_small x.family))
 
-    pub inside : (0 < n) × (at + n ≤ 512)
-    inside = let e = step.reads in (e.some, omega (arith, e.inside, size_small x.family))
+      making_on : {new : Log} → new ≡ with_rows_at log made.before (rows_ended action made.row)
+          → Making x ranges place all lent new (at + n) (made_after action made)
+      making_on p =
+          let left = rows_ended action made.row in
+          let later = rows_over (actions_of step.rest) (row_after action made.row) in
+          let size = reads_size step.reads made.row in
+          let here : rows_over (actions_of g.walk) made.row ≡ left ++ later = ap (λ (actions : List Action). rows_over actions made.row) step.is in
+          let sum = length-append g.before left in
+          record {
+            room = g.room;
+            knows = know_next action g.knows;
+            last = g.last;
+            walk = step.rest;
+            before = g.before ++ left;
+            same_rows = append_assoc g.before left later ∙ ap (λ (l : List Row). g.before ++ l) (sym here) ∙ g.same_rows;
+            same_steps = omega (arith, ap length step.is, g.same_steps);
+            same_writes = omega (arith, ap writes_over step.is, g.same_writes);
+            counted = omega (arith, sum, g.counted);
+            three_bytes = omega (arith, sum, g.three_bytes, size);
+            low = inside.1;
+            few_steps = omega (arith, g.few_steps, inside.0);
+            few_writes = omega (arith, g.few_writes, poke_small action);
+            bounded = bounded_next action step.reads.formed step.reads.some g.bounded;
+            row_fits = row_fits_after action made.row g.knows.clocks step.fine.event g.row_fits;
+            put = p ∙ put_after left (omega (arith, g.three_bytes, size, inside.1));
+          }
 
-    pub counts_fit : (made.before < 1024) × (made.steps < 1024) × (made.writes < 1024)
-        × (made.row.clocks + wait_length action < 2 ^ 64) × (Releasable action)
-    counts_fit =
-        let short = wait_short action step.reads.formed in (
-          omega (arith, few, g.counted),
-          omega (arith, g.few_steps, g.low),
-          omega (arith, g.few_writes, g.few_steps, g.low),
-          omega (arith, g.row_fits.most, g.bounded.clocks, g.bounded.count, g.low, short),
-          step.fine.event,
-        )
-
-    making_on : {new : Log} → new ≡ with_rows_at log made.before (rows_ended action made.row)
-        → Making x ranges place all lent new (at + n) (made_after action made)
-    making_on p =
-        let left = rows_ended action made.row in
-        let later = rows_over (actions_of step.rest) (row_after action made.row) in
-        let size = reads_size step.reads made.row in
-        let here : rows_over (actions_of g.walk) made.row ≡ left ++ later = ap (λ (actions : List Action). rows_over actions made.row) step.is in
-        let sum = length-append g.before left in
-        record {
-          knows = know_next action g.knows;
-          last = g.last;
-          walk = step.rest;
-          before = g.before ++ left;
-          same_rows = append_assoc g.before left later ∙ ap (λ (l : List Row). g.before ++ l) (sym here) ∙ g.same_rows;
-          same_steps = omega (arith, ap length step.is, g.same_steps);
-          same_writes = omega (arith, ap writes_over step.is, g.same_writes);
-          counted = omega (arith, sum, g.counted);
-          three_bytes = omega (arith, sum, g.three_bytes, size);
-          low = inside.1;
-          few_steps = omega (arith, g.few_steps, inside.0);
-          few_writes = omega (arith, g.few_writes, poke_small action);
-          bounded = bounded_next action step.reads.formed step.reads.some g.bounded;
-          row_fits = row_fits_after action made.row g.knows.clocks step.fine.event g.row_fits;
-          put = p ∙ put_after left (omega (arith, g.three_bytes, size, inside.1));
-        }
-
-    -- the same of what the loop's calls gave
-    pub making_next : {new : Log} {did : Action} {made' : Timeline} → did ≡ action → Extends did made log new made'
-        → Making x ranges place all lent new (at + n) made'
-    making_next {new} {did} {made'} same e =
-        let becomes : made' ≡ made_after action made = e.made_is ∙ ap (λ (a : Action). made_after a made) same in
-        subst (Making x ranges place all lent new (at + n)) (sym becomes)
-        (making_on (e.put ∙ ap (λ (a : Action). with_rows_at log made.before (rows_ended a made.row)) same))
+      -- the same of what the loop's calls gave
+      pub making_next : {new : Log} {did : Action} {made' : Timeline} → did ≡ action → Extends did made log new made'
+          → Making x ranges place all lent new (at + n) made'
+      making_next {new} {did} {made'} same e =
+          let becomes : made' ≡ made_after action made = e.made_is ∙ ap (λ (a : Action). made_after a made) same in
+          subst (Making x ranges place all lent new (at + n)) (sym becomes)
+          (making_on (e.put ∙ ap (λ (a : Action). with_rows_at log made.before (rows_ended a made.row)) same))

@@ -17,27 +17,20 @@ pub struct Timeline {
     pub writes: usize,
 }
 
-fn made_so(row: Row, before: usize, steps: usize, writes: usize) -> Timeline
-    ensures { result ≡ timeline_of row before steps writes }
-{
-    Timeline {
-        row,
-        before,
-        steps,
-        writes,
-    }
-}
-
 // At the entry: one clock, and no event has a reading.
 pub(crate) fn begin() -> Timeline
     ensures { result ≡ nothing_made }
 {
-    let row = Row {
-        clocks: 1,
-        known: 0,
-        values: 0,
-    };
-    made_so(row, 0, 0, 0)
+    Timeline {
+        row: Row {
+            clocks: 1,
+            known: 0,
+            values: 0,
+        },
+        before: 0,
+        steps: 0,
+        writes: 0,
+    }
 }
 
 // A row made longer by a wait.
@@ -47,8 +40,7 @@ fn longer(row: Row, n: u64) -> Row
 {
     Row {
         clocks: row.clocks + n,
-        known: row.known,
-        values: row.values,
+        ..row
     }
 }
 
@@ -95,21 +87,31 @@ pub(crate) fn extend(
     ensures { Extends action made (log_of clocks.old known.old values.old)
         (log_of clocks.new known.new values.new) result }
 {
-    let row = made.row;
-    let before = made.before;
     let steps = made.steps + 1;
-    let writes = made.writes;
     match action {
-        Action::Wait(n) => made_so(longer(row, n), before, steps, writes),
+        Action::Wait(n) => Timeline {
+            row: longer(made.row, n),
+            steps,
+            ..made
+        },
         Action::Ewait(event, value) => {
-            if log_ewaits::has_reading(row.known, row.values, event, value) {
-                made_so(row, before, steps, writes)
+            if log_ewaits::has_reading(made.row.known, made.row.values, event, value) {
+                Timeline { steps, ..made }
             } else {
-                put_row(row, before, clocks, known, values);
-                made_so(event_row(event, value), before + 1, steps, writes)
+                put_row(made.row, made.before, clocks, known, values);
+                Timeline {
+                    row: event_row(event, value),
+                    before: made.before + 1,
+                    steps,
+                    ..made
+                }
             }
         }
-        Action::Poke(_, _) => made_so(row, before, steps, writes + 1),
-        _ => made_so(row, before, steps, writes),
+        Action::Poke(_, _) => Timeline {
+            steps,
+            writes: made.writes + 1,
+            ..made
+        },
+        _ => Timeline { steps, ..made },
     }
 }

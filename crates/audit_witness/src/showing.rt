@@ -1,5 +1,5 @@
 // The verdict, and the script's way to its place, written down as a log.
-ghost use Rattle.std.specs.Prelude.{◌≡◌, true, ◌≤◌, eqb, length};
+ghost use Rattle.std.specs.Prelude.{ℕ, ◌≡◌, true, ◌≤◌, ◌<◌, eqb, length, slice_index};
 ghost use Rattle.event_log.specs.Log.{log_of};
 ghost use Rattle.script.specs.Script.{lent_script};
 ghost use Rattle.script.specs.Input.{input_fits};
@@ -82,18 +82,16 @@ fn follow(
 ) -> Timeline
     requires { (input_fits (lent_script script) ranges.now ≡ true)
         × (place.0 ≡ place_of (audit_of (lent_script script) ranges.now))
-        × (max_shown ≤ length clocks.old) × (max_shown ≤ length known.old) × (max_shown ≤ length values.old) }
+        × (max_shown ≤ length clocks.old) × (max_shown ≤ length known.old) × (max_shown ≤ length values.old)
+        × ((i : ℕ) → slice_index script.ram.code.now i < 256) }
     ensures { Follows (way (lent_script script.entry) ranges.now)
         (log_of clocks.old known.old values.old) (log_of clocks.new known.new values.new) result }
 {
     let mut at = script.entry.0;
     let mut made = begin();
-    let last = loop {
-        if at == place.0 {
-            break made;
-        }
+    while at != place.0 {
         let Ok((instruction, length)) = script.ram.fetch(CodeAddress(at)) else {
-            break made;
+            break;
         };
         made = extend(
             machine_actions::action_of(instruction),
@@ -103,7 +101,7 @@ fn follow(
             values,
         );
         at += length;
-    };
-    put_row(last.row, last.before, clocks, known, values);
-    last
+    }
+    put_row(made.row, made.before, clocks, known, values);
+    made
 }

@@ -71,12 +71,8 @@ fn unnamed_number(family: u8) -> u8
 fn wide_number(family: u8) -> u8
     ensures { result ≡ wide_number family }
 {
-    if 2 <= family {
-        if families::known_family(family) {
-            12
-        } else {
-            9
-        }
+    if 2 <= family && families::known_family(family) {
+        12
     } else {
         unnamed_number(family)
     }
@@ -115,6 +111,7 @@ fn named_half(kind: u8, half: u32) -> Result<Instruction, Unnamed>
 }
 
 // An operand that the instruction lacks is not looked at.
+#[tactic(auto, unfolding(crate::specs::Encoding::named_by))]
 fn named_by(kind: u8, first: u32, second: u8) -> Result<Instruction, Unnamed>
     ensures { result ≡ named_by kind first second }
 {

@@ -2,9 +2,10 @@
 ghost use Rattle.std.specs.Prelude.{◌≡◌};
 ghost use Rattle.capi_host.specs.Accesses.{access_reply, read_reply, HwsqFresh, HwsqWrite, HwsqRead};
 
-use capi_state::{StateImage, state_image, state_of_image};
+use capi_state::StateImage;
 use host_registers::Access;
 use isa::MmioAddress;
+use machine_state::State;
 use refusals::Inaccessible;
 
 #[repr(C)]
@@ -36,7 +37,7 @@ pub extern "C" fn hwsq_fresh(family: u8) -> AccessReply
 pub extern "C" fn hwsq_write(state: StateImage, address: u32, word: u32) -> AccessReply
     ensures { HwsqWrite state address word result }
 {
-    access_reply(host_access::write_register(state_of_image(state), MmioAddress(address), word))
+    access_reply(host_access::write_register(State::from(state), MmioAddress(address), word))
 }
 
 // The word that the host reads at an address.
@@ -44,7 +45,7 @@ pub extern "C" fn hwsq_write(state: StateImage, address: u32, word: u32) -> Acce
 pub extern "C" fn hwsq_read(state: StateImage, address: u32) -> ReadReply
     ensures { HwsqRead state address result }
 {
-    read_reply(host_access::read_register(state_of_image(state), MmioAddress(address)))
+    read_reply(host_access::read_register(State::from(state), MmioAddress(address)))
 }
 
 fn read_reply(reading: Result<u32, Inaccessible>) -> ReadReply
@@ -62,7 +63,7 @@ fn read_reply(reading: Result<u32, Inaccessible>) -> ReadReply
 fn access_reply(access: Access) -> AccessReply
     ensures { result ≡ access_reply access }
 {
-    let state = state_image(access.state);
+    let state = StateImage::from(access.state);
     match access.outcome {
         Ok(()) => AccessReply { refusal: 0, state },
         Err(why) => AccessReply {

@@ -3,11 +3,11 @@ ghost use Rattle.std.specs.Prelude.{◌≡◌};
 ghost use Rattle.capi_machine.specs.Stepping.{slot_numbered, effect_numbers, step_reply, HwsqStep};
 ghost use Rattle.event_log.specs.Log.{log_of};
 
-use capi_state::{StateImage, state_image, state_of_image};
+use capi_state::StateImage;
 use event_log::{Log, Place};
 use isa::MmioAddress;
 use machine_slot::Effect;
-use machine_state::SlotName;
+use machine_state::{SlotName, State};
 use machine_step::Stepped;
 
 // What a step did, as numbers.
@@ -55,7 +55,7 @@ pub extern "C" fn hwsq_step<'a>(
     ensures { HwsqStep state slot (log_of clocks.now known.now values.now) row used result }
 {
     step_reply(machine_step::step(
-        state_of_image(state),
+        State::from(state),
         slot_named(slot),
         Log {
             clocks,
@@ -113,6 +113,6 @@ fn step_reply(stepped: Stepped) -> StepReply
         used: stepped.place.used,
         waited: stepped.waited,
         searched: stepped.searched,
-        state: state_image(stepped.state),
+        state: StateImage::from(stepped.state),
     }
 }

@@ -2,7 +2,8 @@
 use mathlib.Core.Path.{◌≡◌, refl}
 use Rattle.machine_state.specs.declared.slots.Mode.{Mode}
 use Rattle.machine_state.specs.declared.state.State.{State}
-use Rattle.capi_state.specs.Images.{mode_number, mode_of, slot_from, slot_image, image_state, state_image}
+use Rattle.machine_state.specs.Slot.{mode_number}
+use Rattle.capi_state.specs.Images.{mode_of, slot_from, slot_image, image_state, state_image}
 
 mode_back : (m : Mode) → mode_of (mode_number m) ≡ m
 mode_back Mode.Idle = refl

@@ -1,17 +1,11 @@
 -- The machine's state as C holds it.
 use Rattle.std.specs.Prelude.{ℕ, cond, eqb}
+use Rattle.machine_state.specs.Slot.{mode_number}
 use Rattle.machine_state.specs.declared.slots.Mode.{Mode}
 use Rattle.machine_state.specs.declared.slots.Slot.{Slot}
 use Rattle.machine_state.specs.declared.state.State.{State}
 use Rattle.capi_state.specs.declared.images.SlotImage.{SlotImage}
 use Rattle.capi_state.specs.declared.images.StateImage.{StateImage}
-
-abbrev pub mode_number : Mode → ℕ
-mode_number Mode.Idle = 0
-mode_number Mode.Running = 1
-mode_number Mode.Waiting = 2
-mode_number Mode.Blocked = 3
-mode_number Mode.Hung = 4
 
 -- numbers that name no mode stand for a slot that nothing moves but an abort
 abbrev pub mode_of : ℕ → Mode

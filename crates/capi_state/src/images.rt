@@ -1,6 +1,6 @@
 // The machine's state as C holds it: the same registers, with numbers for modes.
 ghost use Rattle.std.specs.Prelude.{◌≡◌};
-ghost use Rattle.capi_state.specs.Images.{mode_of, mode_number, slot_from, slot_image, image_state, state_image};
+ghost use Rattle.capi_state.specs.Images.{mode_of, slot_from, slot_image, image_state, state_image};
 
 use isa::{CodeAddress, MmioAddress};
 use machine_flags::Flags;
@@ -46,83 +46,78 @@ fn mode_of(number: u8) -> Mode
     }
 }
 
-fn mode_number(mode: Mode) -> u8
-    ensures { result ≡ mode_number mode }
-{
-    match mode {
-        Mode::Idle => 0,
-        Mode::Running => 1,
-        Mode::Waiting => 2,
-        Mode::Blocked => 3,
-        Mode::Hung => 4,
+impl From<SlotImage> for Slot {
+    #[tactic(auto, unfolding(crate::specs::Images::slot_from))]
+    fn from(image: SlotImage) -> Slot
+        ensures { result ≡ slot_from image }
+    {
+        Slot {
+            mode: mode_of(image.mode),
+            ip: CodeAddress(image.ip),
+            addr: MmioAddress(image.addr),
+            data: image.data,
+        }
     }
 }
 
-fn slot_from(image: SlotImage) -> Slot
-    ensures { result ≡ slot_from image }
-{
-    Slot {
-        mode: mode_of(image.mode),
-        ip: CodeAddress(image.ip),
-        addr: MmioAddress(image.addr),
-        data: image.data,
+impl From<Slot> for SlotImage {
+    #[tactic(auto, unfolding(crate::specs::Images::slot_image))]
+    fn from(slot: Slot) -> SlotImage
+        ensures { result ≡ slot_image slot }
+    {
+        SlotImage {
+            mode: u8::from(slot.mode),
+            addr: slot.addr.0,
+            data: slot.data,
+            ip: slot.ip.0,
+        }
     }
 }
 
-fn slot_image(slot: Slot) -> SlotImage
-    ensures { result ≡ slot_image slot }
-{
-    let mode = slot.mode;
-    SlotImage {
-        mode: mode_number(mode),
-        addr: slot.addr.0,
-        data: slot.data,
-        ip: slot.ip.0,
+impl From<StateImage> for State {
+    #[tactic(auto, unfolding(crate::specs::Images::image_state))]
+    fn from(image: StateImage) -> State
+        ensures { result ≡ image_state image }
+    {
+        let code = image.code;
+        let marks = image.marks;
+        State {
+            family: image.family,
+            code,
+            marks,
+            flags: Flags {
+                values: image.values,
+                enables: image.enables,
+            },
+            enable: image.enable,
+            override_mode: image.override_mode,
+            entries: image.entries,
+            entries_high: image.entries_high,
+            a: Slot::from(image.a),
+            b: Slot::from(image.b),
+        }
     }
 }
 
-pub fn state_of_image(image: StateImage) -> State
-    ensures { result ≡ image_state image }
-{
-    let code = image.code;
-    let marks = image.marks;
-    let a = slot_from(image.a);
-    let b = slot_from(image.b);
-    State {
-        family: image.family,
-        code,
-        marks,
-        flags: Flags {
-            values: image.values,
-            enables: image.enables,
-        },
-        enable: image.enable,
-        override_mode: image.override_mode,
-        entries: image.entries,
-        entries_high: image.entries_high,
-        a,
-        b,
-    }
-}
-
-pub fn state_image(state: State) -> StateImage
-    ensures { result ≡ state_image state }
-{
-    let code = state.code;
-    let marks = state.marks;
-    let a = slot_image(state.a);
-    let b = slot_image(state.b);
-    StateImage {
-        family: state.family,
-        enable: state.enable,
-        override_mode: state.override_mode,
-        values: state.flags.values,
-        enables: state.flags.enables,
-        entries: state.entries,
-        entries_high: state.entries_high,
-        a,
-        b,
-        code,
-        marks,
+impl From<State> for StateImage {
+    #[tactic(auto, unfolding(crate::specs::Images::state_image))]
+    fn from(state: State) -> StateImage
+        ensures { result ≡ state_image state }
+    {
+        let code = state.code;
+        let marks = state.marks;
+        StateImage {
+            family: state.family,
+            enable: state.enable,
+            override_mode: state.override_mode,
+            values: state.flags.values,
+            enables: state.flags.enables,
+            entries: state.entries,
+            entries_high: state.entries_high,
+            a: SlotImage::from(state.a),
+            b: SlotImage::from(state.b),
+            code,
+            marks,
+        }
     }
 }

@@ -3,4 +3,4 @@
 
 mod images;
 
-pub use images::{SlotImage, StateImage, state_image, state_of_image};
+pub use images::{SlotImage, StateImage};

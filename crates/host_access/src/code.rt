@@ -18,17 +18,8 @@ pub(crate) fn upload(
     ensures code_after { code.new ≡ sets code.old at (le_bytes 4 word) }
     ensures marks_after { marks.new ≡ sets marks.old at four_marks }
 {
-    let second = word / 256;
-    let third = second / 256;
-    let fourth = third / 256;
-    code[at] = (word % 256) as u8;
-    code[at + 1] = (second % 256) as u8;
-    code[at + 2] = (third % 256) as u8;
-    code[at + 3] = (fourth % 256) as u8;
-    marks[at] = 1;
-    marks[at + 1] = 1;
-    marks[at + 2] = 1;
-    marks[at + 3] = 1;
+    code[at..at + 4].copy_from_slice(&word.to_le_bytes());
+    marks[at..at + 4].fill(1);
 }
 
 // A byte that was uploaded, and 0 where none was.

@@ -1,8 +1,7 @@
 // A fresh state: the card before the host touched it.
 #![tactic(auto)]
 
-ghost use Rattle.std.specs.Prelude.{◌≡◌, cond};
-ghost use Rattle.families.specs.Family.{known_family};
+ghost use Rattle.std.specs.Prelude.{◌≡◌};
 ghost use Rattle.machine_state.specs.Sequencer.{sequencer_of};
 ghost use Rattle.host_registers.specs.Access.{blank_state};
 ghost use Rattle.host_registers.specs.Promises.{Begins};
@@ -14,6 +13,7 @@ use machine_state::{Mode, Sequencer, Slot, state_from};
 use refusals::Inaccessible;
 
 // Every register 0, both slots idle.
+#[tactic(auto, unfolding(host_registers::specs::Access::blank_state))]
 pub fn fresh_sequencer(family: u8) -> Sequencer
     ensures { result ≡ sequencer_of (blank_state family) }
 {
@@ -25,10 +25,7 @@ pub fn fresh_sequencer(family: u8) -> Sequencer
     };
     Sequencer {
         family,
-        flags: Flags {
-            values: 0,
-            enables: 0,
-        },
+        flags: Flags::default(),
         enable: false,
         override_mode: false,
         entries: 0,
@@ -38,22 +35,18 @@ pub fn fresh_sequencer(family: u8) -> Sequencer
     }
 }
 
-fn fresh_outcome(family: u8) -> Result<(), Inaccessible>
-    ensures { result ≡ cond (known_family family) (Ok tt) (Err Inaccessible.Family) }
-{
-    if !families::known_family(family) {
-        return Err(Inaccessible::Family);
-    }
-    Ok(())
-}
-
 // The state of a card before the host touched it.
+#[tactic(auto, using(host_registers::proofs::AccessLaws::begins), unfolding(host_registers::specs::Access::blank_state))]
 pub fn fresh_state(family: u8) -> Access
     ensures { Begins family result }
 {
     let code = [0u8; families::MAX_CODE];
     let marks = [0u8; families::MAX_CODE];
     let state = state_from(fresh_sequencer(family), code, marks);
-    let outcome = fresh_outcome(family);
+    let outcome = if families::known_family(family) {
+        Ok(())
+    } else {
+        Err(Inaccessible::Family)
+    };
     Access { state, outcome }
 }

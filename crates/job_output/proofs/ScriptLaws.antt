@@ -73,10 +73,10 @@ module _ (j : Job) {q : Sequencer} (e : q ≡ sequencer_of j.state) where
 
 -- ---- the run of a job that was read without fault
 
-ended_same : {a b : Progress} → Ok a ≡ Ok b → a ≡ b
+ended_same : {a b : Progress} → ◌≡◌ {A = RunAnswer} (Ok a) (Ok b) → a ≡ b
 ended_same h = cc
 
-pub never_refused : {A : Type 0} {why : Unreplayable} {last : Progress} → Err why ≡ Ok last → A
+pub never_refused : {A : Type 0} {why : Unreplayable} {last : Progress} → ◌≡◌ {A = RunAnswer} (Err why) (Ok last) → A
 never_refused h = absurd (let z : ◌≡◌ {A = ℕ} 0 1 = cc in let w : ⊥ = omega arith in w)
 
 module _ (j : Job) (ready : ReadyToRun j) where

@@ -28,9 +28,8 @@ pub fn report(job: &[u8], out: &mut [u8; MAX_REPORT]) -> usize
     ensures { Reports job.now out.old out.new result }
 {
     let read = job_records::read_job(job);
-    let number = read.number;
-    if number != 0 {
-        return put_refused(out, 0, number, read.at);
+    if let Err(why) = read.outcome {
+        return put_refused(out, 0, u8::from(why), read.at);
     }
     let sequencer = machine_state::sequencer_of(read.job.state);
     let verdict = audit_code(

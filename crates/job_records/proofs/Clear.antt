@@ -10,6 +10,7 @@ use borrow.Author.Tests.{ltb-true, ltb-false, leb-false, eqb-true, eq-eqb, not-f
 use Rattle.machine_execution.specs.Execution.{some_slot_executes}
 use Rattle.families.proofs.Tests.{cond_elim, both_left, both_right}
 use Rattle.machine_state.specs.declared.state.State.{State}
+use Rattle.job_records.specs.Inside.{HasRoom}
 use Rattle.job_records.specs.Records.{kind_of}
 use Rattle.job_records.specs.Refusals.{is_cut_short, is_too_many, is_bad_range, is_bad_row, is_bad_probe, is_unusable, ends_idle, listing, refusal_of}
 use Rattle.refusals.specs.Listing.{Test, first_of}
@@ -42,10 +43,6 @@ passed (test ∷ later) h e number =
     let p = passes test.fails test.number (first_of later) (both_left (ltb 0 test.number) (numbered later) h) e in
     cond_elim (λ (b : Bool). b ≡ false) (eqb number test.number) (λ _. p.0)
     (λ _. passed later (both_right (ltb 0 test.number) (numbered later) h) p.1 number)
-
--- room for one record more of this kind
-abbrev pub HasRoom : ℕ → Counts → Type 0
-HasRoom kind counts = (kind_of counts kind).read < (kind_of counts kind).most
 
 -- what the rest of the reading needs of that
 pub record Clear (rest : List ℕ) (counts : Counts) (m : Masks) (s : State) : Type 0 where

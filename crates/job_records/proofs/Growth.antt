@@ -27,7 +27,8 @@ use Rattle.probe_captures.proofs.ProbeLaws.{hold_none, hold_gate, hold_capture, 
 use Rattle.probe_captures.specs.declared.probes.Probes.{Probes}
 use Rattle.job_records.specs.declared.contents.Counts.{Counts}
 use Rattle.job_records.specs.declared.contents.Job.{Job}
-use Rattle.job_records.proofs.Clear.{HasRoom, Clear}
+use Rattle.job_records.proofs.Clear.{Clear}
+use Rattle.job_records.specs.Inside.{HasRoom}
 use Rattle.job_records.proofs.Counting.{exact_below}
 use Rattle.job_records.proofs.Gating.{gates_empty, gates_after}
 

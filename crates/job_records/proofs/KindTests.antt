@@ -18,8 +18,10 @@ use Rattle.host_registers.specs.declared.access.Access.{Access}
 use Rattle.machine_state.specs.Sequencer.{sequencer_of, state_from}
 use Rattle.machine_state.specs.declared.sequencer.Sequencer.{Sequencer}
 use Rattle.machine_state.specs.declared.state.State.{State}
-use Rattle.job_records.specs.Inside.{shape_number, unless_refused}
+use Rattle.job_records.specs.Inside.{Tested, shape_number, unless_refused, write_tests, StateStored}
 use Rattle.job_records.specs.Job.{state_after, bounds_after, column_after}
+use Rattle.job_records.specs.Number.{refusal_number}
+use Rattle.job_records.specs.declared.refusal.Refusal.{Refusal}
 use Rattle.job_records.specs.Records.{kind_of, is_out_of_order}
 use Rattle.job_records.specs.Refusals.{is_unknown, is_cut_short, is_too_many, is_bad_family, is_bad_range, write_number, is_bad_row, is_bad_probe, is_unusable}
 use Rattle.job_records.specs.Refusals.{has_bytes_after, ends_idle, listing, refusal_of}
@@ -60,6 +62,23 @@ passed false false false false e = record { unknown = refl; short = refl; order 
 abbrev own_tests : List ℕ → Counts → Masks → State → List Test
 own_tests rest counts m s = drop 4 (listing rest counts m s)
 
+-- no refusal has number 0
+pub numbered : (why : Refusal) → eqb (refusal_number why) 0 ≡ false
+numbered Refusal.Gate = refl
+numbered Refusal.CutShort = refl
+numbered Refusal.Unknown = refl
+numbered Refusal.OutOfOrder = refl
+numbered Refusal.TooMany = refl
+numbered Refusal.BytesAfter = refl
+numbered Refusal.Family = refl
+numbered Refusal.Range = refl
+numbered Refusal.Register = refl
+numbered Refusal.Executing = refl
+numbered Refusal.Clocks = refl
+numbered Refusal.TooLong = refl
+numbered Refusal.Idle = refl
+numbered Refusal.Probe = refl
+
 -- a record of this kind
 module _ (rest : List ℕ) (counts : Counts) (k : ℕ) (is : byte_at rest 0 ≡ k) where
   abbrev kind : Kind
@@ -74,6 +93,9 @@ module _ (rest : List ℕ) (counts : Counts) (k : ℕ) (is : byte_at rest 0 ≡ 
   shape_refused h m s =
       rw is (refused (is_unknown rest kind) (is_cut_short rest kind) (is_out_of_order counts.rank kind) (is_too_many kind)
       (first_of (own_tests rest counts m s)) h)
+
+  pub shape_told : (why : Refusal) → refusal_number why ≡ shape → Tested rest counts (refusal_number why)
+  shape_told why e m s = e ∙ shape_refused (λ z. eqb-false (refusal_number why) 0 (numbered why) (e ∙ z)) m s
 
   -- or is not
   module _ (fine : shape ≡ 0) where
@@ -178,8 +200,8 @@ module _ (rest : List ℕ) (counts : Counts) where
 -- ---- what is stored
 
 -- a refused record stores nothing
-pub unstored : {A : Type 0} (number : ℕ) (stored before : A) → (number ≡ 0 → ⊥) → before ≡ unless_refused number stored before
-unstored number stored before h = rw (ne_eqb number 0 h)
+pub unstored : {A : Type 0} (why : Refusal) (stored before : A) → before ≡ unless_refused (refusal_number why) stored before
+unstored why stored before = rw (numbered why)
 
 pub row_stored : (rest column : List ℕ) (n entry : ℕ) {word : ℕ} → byte_at rest 0 ≡ 1 → word ≡ entry
     → set column n word ≡ column_after (byte_at rest 0) n entry column
@@ -201,23 +223,22 @@ unmoved_as : (s t : State) (outcome : Result Unit Inaccessible) → Unmoved s t 
 unmoved_as s t (Ok tt) u h = absurd (h refl)
 unmoved_as s t (Err why) u h = u
 
--- the numbers of the listing that a host write can have
-abbrev pub write_tests : ℕ → ℕ
-write_tests n = cond (eqb n 27) 27 (cond (eqb n 28) 28 0)
-
 module _ (rest : List ℕ) (s : State) (is : byte_at rest 0 ≡ 2) {address word number : ℕ} {answer : Access}
     (a : address ≡ word_at rest 1) (w : word ≡ word_at rest 5) (made : WritesInPlace s (record { 0 = address }) word answer)
     (e : number ≡ write_tests (outcome_number answer.outcome)) where
   answered : answer ≡ write_of s (record { 0 = word_at rest 1 }) (word_at rest 5)
   answered = made.answered ∙ rw (a, w)
 
-  pub write_tested : (counts : Counts) → shape_number rest 2 counts ≡ 0 → (m : Masks) → number ≡ refusal_of rest counts m s
-  write_tested counts fine m = e ∙ ap (λ (x : Access). write_tests (outcome_number x.outcome)) answered ∙ sym (write_own rest counts is fine m s)
-
-  pub write_stored : answer.state ≡ unless_refused number (state_after (byte_at rest 0) rest s) s
+  write_stored : answer.state ≡ unless_refused number (state_after (byte_at rest 0) rest s) s
   unfolding state_after
   write_stored = by (eqb number 0) refl
     where
       by : (taken : Bool) → eqb number 0 ≡ taken → answer.state ≡ unless_refused number (state_after (byte_at rest 0) rest s) s
       by true t = rw (t, is) (ap (λ (x : Access). x.state) answered)
       by false t = rw t (unmoved_as s answer.state answer.outcome made.unmoved (λ z. eqb-false number 0 t (rw z at e)))
+
+  pub write_read : (counts : Counts) → shape_number rest 2 counts ≡ 0 → StateStored rest counts s answer.state number
+  write_read counts fine = record {
+    tested = λ m. e ∙ ap (λ (x : Access). write_tests (outcome_number x.outcome)) answered ∙ sym (write_own rest counts is fine m s);
+    state = write_stored;
+  }

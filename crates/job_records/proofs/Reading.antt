@@ -12,15 +12,12 @@ use Rattle.event_log.specs.Log.{Log, log_of}
 use Rattle.machine_state.specs.declared.state.State.{State}
 use Rattle.job_records.specs.Inside.{unless_refused, RangeRead, RowStored, GateStored, CaptureStored}
 use Rattle.job_records.specs.Job.{counted, state_after, bounds_after, column_after, probes_after, after_record}
-use Rattle.job_records.specs.Reader.{read_at, read_in}
+use Rattle.job_records.specs.Reader.{JobRead, read_at, read_in}
 use Rattle.job_records.specs.Records.{kind_of}
 use Rattle.job_records.specs.Refusals.{refusal_of}
 use Rattle.words.specs.Numbers.{byte_at}
 use Rattle.job_records.specs.declared.contents.Counts.{Counts}
 use Rattle.job_records.specs.declared.contents.Job.{Job}
-use Rattle.job_records.specs.declared.jobs.JobRead.{JobRead}
-use Rattle.job_records.specs.declared.by_probe.CaptureRead.{CaptureRead}
-use Rattle.job_records.specs.declared.by_probe.GateRead.{GateRead}
 use Rattle.probe_captures.specs.Probes.{no_gate, no_extent, with_gate, with_capture, with_row}
 use Rattle.probe_captures.specs.Records.{gate_in, capture_in}
 use Rattle.probe_captures.specs.declared.extents.Extent.{Extent}
@@ -114,7 +111,7 @@ module _ (rest : List ℕ) (j : Job) (number : ℕ) where
   counts = j.counts
 
   pub row_reached : byte_at rest 0 ≡ 1 → {new : Log} {masks : Masks}
-      → RowStored rest counts j.probes.masks (log_of j.clocks j.known j.values) new (record { number = number; masks = masks })
+      → RowStored rest counts j.probes.masks masks (log_of j.clocks j.known j.values) new number
       → Reached rest j number (record {
         counts = counts;
         bounds = j.bounds;
@@ -138,47 +135,43 @@ module _ (rest : List ℕ) (j : Job) (number : ℕ) where
 
   -- of a gate, and of a capture: the event stands where it is stored, since one above 31 is refused
   module _ {event : ℕ} (place : event ≡ byte_at rest 1 % 32) where
-    pub gate_reached : byte_at rest 0 ≡ 6 → (old : EventGate) {answer : GateRead} → number ≡ answer.number
-        → GateStored rest counts j.probes.masks (get_or j.probes.gates event old) answer
+    pub gate_reached : byte_at rest 0 ≡ 6 → (old : EventGate) {masks : Masks} {gate : EventGate}
+        → GateStored rest counts j.probes.masks masks (get_or j.probes.gates event old) gate number
         → Reached rest j number (with_probes (record {
-          masks = answer.masks;
-          gates = set j.probes.gates event answer.gate;
+          masks = masks;
+          gates = set j.probes.gates event gate;
           extents = j.probes.extents;
         }))
     unfolding after_record bounds_after state_after column_after probes_after with_gate gate_in
-    gate_reached is old {answer} e r =
-        let tested = e ∙ r.tested j.state in
+    gate_reached is old r =
+        let tested = r.tested j.state in
         record {
           tested = tested;
           stored = λ z.
               let at = place ∙ below_32 (gate_event rest j.probes.masks is (clear rest counts j.probes.masks j.state (sym tested ∙ z)).probe) in
-              simp (r.masks, r.gate, sym e ∙ z, is, at);
-          kept = λ h.
-              let no = refused is (omega arith) h in
-              rw (r.masks, r.gate, ne_eqb answer.number 0 (λ z. no (e ∙ z)), set-get_or j.probes.gates event old) refl;
+              simp (r.masks, r.gate, z, is, at);
+          kept = λ h. rw (r.masks, r.gate, ne_eqb number 0 (refused is (omega arith) h), set-get_or j.probes.gates event old) refl;
         }
 
     pub capture_reached : byte_at rest 0 ≡ 5 → event < length j.probes.gates → event < length j.probes.extents
-        → (by : EventGate) (old : Extent) {answer : CaptureRead} → number ≡ answer.number
-        → CaptureStored rest counts j.probes.masks (get_or j.probes.gates event by) (get_or j.probes.extents event old) answer
+        → (by : EventGate) (old : Extent) {masks : Masks} {extent : Extent}
+        → CaptureStored rest counts (get_or j.probes.gates event by) j.probes.masks masks (get_or j.probes.extents event old) extent number
         → Reached rest j number (with_probes (record {
-          masks = answer.heard.masks;
+          masks = masks;
           gates = j.probes.gates;
-          extents = set j.probes.extents event answer.heard.extent;
+          extents = set j.probes.extents event extent;
         }))
     unfolding after_record bounds_after state_after column_after probes_after with_capture capture_in
-    capture_reached is in_gates in_extents by old {answer} e r =
-        let tested = e ∙ r.tested j.state in
+    capture_reached is in_gates in_extents by old r =
+        let tested = r.tested j.state in
         record {
           tested = tested;
           stored = λ z.
               let at = place ∙ below_32 (capture_event rest j.probes.masks is (clear rest counts j.probes.masks j.state (sym tested ∙ z)).probe) in
               let gate = same_element j.probes.gates (byte_at rest 1) by no_gate (omega (arith, at, in_gates)) in
               let extent = same_element j.probes.extents (byte_at rest 1) old no_extent (omega (arith, at, in_extents)) in
-              simp (r.heard, sym e ∙ z, is, at, gate, extent);
-          kept = λ h.
-              let no = refused is (omega arith) h in
-              rw (r.heard, ne_eqb answer.number 0 (λ z. no (e ∙ z)), set-get_or j.probes.extents event old) refl;
+              simp (r.masks, r.extent, z, is, at, gate, extent);
+          kept = λ h. rw (r.masks, r.extent, ne_eqb number 0 (refused is (omega arith) h), set-get_or j.probes.extents event old) refl;
         }
 
   pub range_reached : byte_at rest 0 ≡ 3 → {bounds : List ℕ} → RangeRead rest counts j.bounds bounds number

@@ -2,6 +2,7 @@
 use Rattle.std.specs.Prelude.{ℕ, zero, suc, ◌+◌, ◌≤◌, ◌≡◌, true, cond, List, ltb, eqb, length, drop}
 use Rattle.job_records.specs.Job.{empty_job, after_record, CountsFit, log_in}
 use Rattle.event_log.specs.Validity.{valid_log}
+use Rattle.job_records.specs.Number.{refused_number}
 use Rattle.job_records.specs.Records.{end, kind_of}
 use Rattle.job_records.specs.Refusals.{refusal_of}
 use Rattle.job_records.specs.Started.{Started}
@@ -13,11 +14,21 @@ use Rattle.probe_captures.specs.declared.gates.EventGate.{EventGate}
 use Rattle.probe_captures.specs.declared.probes.Probes.{Probes}
 use Rattle.probe_gates.specs.Refusal.{usable_of}
 use Rattle.job_records.specs.declared.contents.Job.{Job}
-use Rattle.job_records.specs.declared.jobs.JobRead.{JobRead}
+use Rattle.job_records.specs.declared.jobs.JobRead.{JobRead as AsAnswered}
 
 -- a job may have so many bytes
 abbrev pub max_bytes : ℕ
 max_bytes = 32768
+
+-- what is read of a job: the number of its refusal, 0 for none, the offset of the record at fault or of the end, and what the records before it say
+pub record JobRead : Type 0 where
+  pub number : ℕ
+  pub at : ℕ
+  pub job : Job
+
+-- what the call answers, its refusal by its number
+abbrev pub told : AsAnswered → JobRead
+told answer = record { number = refused_number answer.outcome; at = answer.at; job = answer.job }
 
 abbrev pub read_at : ℕ → ℕ → Job → JobRead
 read_at number at j = record { number = number; at = at; job = j }

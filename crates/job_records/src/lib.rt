@@ -7,7 +7,8 @@ mod contents;
 mod jobs;
 mod kinds;
 mod listing;
-mod numbers;
+mod refusal;
 
 pub use contents::{Counts, Job};
 pub use jobs::{JobRead, MAX_BYTES, read_job};
+pub use refusal::Refusal;

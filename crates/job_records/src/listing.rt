@@ -1,10 +1,12 @@
 // The tests that a record of every kind must pass.
-ghost use Rattle.std.specs.Prelude.{◌≡◌, cond};
+ghost use Rattle.std.specs.Prelude.{◌≡◌, IfOk};
 ghost use Rattle.job_records.specs.Refusals.{is_unknown, is_cut_short, is_too_many};
-ghost use Rattle.job_records.specs.Inside.{shape_number};
+ghost use Rattle.job_records.specs.Inside.{shape_number, HasRoom};
+ghost use Rattle.job_records.specs.Number.{refused_number};
 
 use crate::contents::Counts;
 use crate::kinds::{Kind, is_out_of_order, kind_of};
+use crate::refusal::Refusal;
 
 // An unknown kind, or the end of input.
 fn is_unknown(rest: &[u8], kind: Kind) -> bool
@@ -25,20 +27,24 @@ fn is_too_many(kind: Kind) -> bool
     kind.most <= kind.read
 }
 
-// A line of the listing: the number of a test that fails, or what the later ones come to.
-pub(crate) fn when(fails: bool, number: u8, later: u8) -> u8
-    ensures { result ≡ cond fails number later }
-{
-    if fails { number } else { later }
-}
-
-// The number of the first of them that the record at the start of rest fails, 0 where it passes all.
-pub(crate) fn shape_number(rest: &[u8], byte: u8, counts: Counts) -> u8
-    ensures { result ≡ shape_number rest.now byte counts }
+// The first of them that the record at the start of rest fails.
+#[tactic(auto, unfolding(crate::specs::Refusals::is_too_many))]
+pub(crate) fn test_shape(rest: &[u8], byte: u8, counts: Counts) -> Result<(), Refusal>
+    ensures number { refused_number result ≡ shape_number rest.now byte counts }
+    ensures room { IfOk result (λ done. HasRoom byte counts) }
 {
     let kind = kind_of(byte, counts);
-    let many = when(is_too_many(kind), 23, 0);
-    let order = when(is_out_of_order(counts.rank, kind), 22, many);
-    let short = when(is_cut_short(rest, kind), 20, order);
-    when(is_unknown(rest, kind), 21, short)
+    if is_unknown(rest, kind) {
+        return Err(Refusal::Unknown);
+    }
+    if is_cut_short(rest, kind) {
+        return Err(Refusal::CutShort);
+    }
+    if is_out_of_order(counts.rank, kind) {
+        return Err(Refusal::OutOfOrder);
+    }
+    if is_too_many(kind) {
+        return Err(Refusal::TooMany);
+    }
+    Ok(())
 }

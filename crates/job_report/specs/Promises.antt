@@ -2,8 +2,7 @@
 use Rattle.std.specs.Prelude.{ℕ, ◌≤◌, ◌≡◌, List, [], ◌++◌, length, take, drop}
 use Rattle.isa.specs.declared.addresses.CodeAddress.{CodeAddress}
 use Rattle.audit_verdict.specs.declared.verdicts.Verdict.{Verdict}
-use Rattle.job_records.specs.Reader.{job_read_of}
-use Rattle.job_records.specs.declared.jobs.JobRead.{JobRead}
+use Rattle.job_records.specs.Reader.{JobRead, job_read_of}
 use Rattle.job_report.specs.Lines.{family_line, pass_line}
 use Rattle.job_report.specs.JobScript.{verdict_of}
 use Rattle.job_report.specs.Report.{probe_lines, run_lines, report_of, step_lines}

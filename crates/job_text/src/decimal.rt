@@ -14,7 +14,8 @@ pub fn put_decimal(out: &mut [u8; 65536], at: usize, n: u64) -> usize
     let mut rest = n;
     for first in (0..MAX_DIGITS).rev() {
         text[first] = b'0' + (rest % 10) as u8;
-        if rest < 10 {
+        let last = rest < 10;
+        if last {
             return put_bytes(out, at, &text[first..]);
         }
         rest /= 10;

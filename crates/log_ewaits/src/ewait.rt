@@ -15,14 +15,12 @@ pub enum Released {
 }
 
 // Whether the row has a reading of the event, and it is the value.
+#[tactic(auto, unfolding(crate::specs::Ewait::has_reading))]
 pub fn has_reading(known: u32, values: u32, event: u8, value: u8) -> bool
     ensures { result ≡ has_reading known values event value }
 {
-    if 32 <= event {
-        return false;
-    }
     let bit = event as u32;
-    (known >> bit) % 2 == 1 && (values >> bit) % 2 == value as u32
+    bit < 32 && (known >> bit) % 2 == 1 && (values >> bit) % 2 == value as u32
 }
 
 // Waits for the event from a place on: the first row that has the reading releases it. The clocks passed by

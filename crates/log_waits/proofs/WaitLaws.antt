@@ -98,3 +98,6 @@ waits clocks p n answer e = record {
   within = rw e (omega (arith, wait_cut clocks p n));
   spent = rw e (wait_spent clocks p n);
 }
+
+-- what a loop over the rows needs
+pub ruleset wait_laws = (wait_in_lem, wait_on, wait_end, waits)

@@ -4,5 +4,5 @@ ghost use Rattle.std.specs.Prelude.{◌≡◌, ◌-◌};
 pub fn unused(clocks: u64, used: u64) -> u64
     ensures { result ≡ clocks - used }
 {
-    if used < clocks { clocks - used } else { 0 }
+    clocks.saturating_sub(used)
 }

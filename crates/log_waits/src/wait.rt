@@ -12,13 +12,13 @@ pub struct Waited {
 }
 
 // Waits n clocks from a place on. A row used up means the next row with none used.
+#[tactic(auto, using(crate::proofs::WaitLaws::wait_laws))]
 pub fn clock_wait(clocks: &[u64], at: Place, n: u64) -> Waited
     ensures { Waits clocks.now at n result }
 {
-    let mut row = at.row;
     let mut used = at.used;
     let mut still = n;
-    while row < clocks.len() {
+    for row in at.row..clocks.len() {
         let rest = unused(clocks[row], used);
         if still < rest {
             return Waited {
@@ -30,11 +30,13 @@ pub fn clock_wait(clocks: &[u64], at: Place, n: u64) -> Waited
             };
         }
         still -= rest;
-        row += 1;
         used = 0;
     }
     Waited {
-        place: Place { row, used: 0 },
+        place: Place {
+            row: at.row.max(clocks.len()),
+            used: 0,
+        },
         cut: still,
     }
 }

@@ -30,6 +30,14 @@ is_idle Mode.Waiting = false
 is_idle Mode.Blocked = false
 is_idle Mode.Hung = false
 
+-- the number that C holds for a mode
+abbrev pub mode_number : Mode → ℕ
+mode_number Mode.Idle = 0
+mode_number Mode.Running = 1
+mode_number Mode.Waiting = 2
+mode_number Mode.Blocked = 3
+mode_number Mode.Hung = 4
+
 -- a slot of a fresh state: idle, IP, ADDR and DATA 0
 abbrev pub blank_slot : Slot
 blank_slot = record { mode = Mode.Idle; ip = record { 0 = 0 }; addr = record { 0 = 0 }; «data» = 0 }

@@ -1,6 +1,6 @@
 // A slot: its mode, its IP, and ADDR and DATA, which outlive a script.
 ghost use Rattle.std.specs.Prelude.{◌≡◌};
-ghost use Rattle.machine_state.specs.Slot.{has_slot, is_running, is_idle};
+ghost use Rattle.machine_state.specs.Slot.{has_slot, is_running, is_idle, mode_number};
 
 use isa::{CodeAddress, MmioAddress};
 
@@ -21,6 +21,21 @@ pub enum Mode {
     Blocked,
     // after an unknown opcode, on families 2 and 3
     Hung,
+}
+
+// The number that C holds for a mode.
+impl From<Mode> for u8 {
+    fn from(mode: Mode) -> u8
+        ensures { result ≡ mode_number mode }
+    {
+        match mode {
+            Mode::Idle => 0,
+            Mode::Running => 1,
+            Mode::Waiting => 2,
+            Mode::Blocked => 3,
+            Mode::Hung => 4,
+        }
+    }
 }
 
 #[derive(Clone, Copy)]

@@ -14,7 +14,7 @@ pub struct Unusable;
 
 // The number of the refusal.
 impl From<Unusable> for u8 {
-    fn from(why: Unusable) -> u8
+    fn from(_: Unusable) -> u8
         ensures { result ≡ unusable }
     {
         16

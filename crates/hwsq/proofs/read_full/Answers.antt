@@ -1,34 +1,24 @@
 -- What each read consumed joins what was read before it.
-use Rattle.std.proofs.Common.{◌≡◌, ℕ, ◌+◌, ◌-◌, ◌≤◌, List, ◌++◌, length, take, drop, slice_range}
-use Rattle.std.proofs.Common.{rules, arith, sym, ap, ◌∙◌, subst, le_refl, drop_at, length-take-le}
-use Rattle.std.proofs.lemmas.Slice.{take-put_mid_below}
+use Rattle.std.proofs.Common.{◌≡◌, ℕ, ◌+◌, ◌-◌, ◌≤◌, List, ◌++◌, length, take, rules, sym, ap, ◌∙◌, subst}
+use Rattle.std.proofs.lemmas.List.{length-take-le, take-append-le}
+use Rattle.std.proofs.Math.Seq.{take-append-add}
 use Rattle.std.proofs.KnownBytes.{Consumes-trans}
 use Rattle.std.specs.Io.KnownBytes.{Consumes}
 use borrow.Rule.Slice.PartMut.{put_mid, post_of}
-use lib.Seq.{take-add, take-append-le}
 use Rattle.hwsq.proofs.read_full.Goals as goal
 
-take_split : (a n : ℕ) (old new : List ℕ) → take a new ≡ take a old → take a old ++ slice_range new a (a + n) ≡ take (a + n) new
-take_split a n old new front =
-    let same : (a + n) - a ≡ n = omega arith in
-    ap (λ l. l ++ slice_range new a (a + n)) (sym front) ∙ ap (λ m. take a new ++ take m (drop a new)) same ∙ sym (take-add a n new)
-
-slice_range-put_mid : (a k n : ℕ) (xs ys : List ℕ) → a ≤ length xs → n ≤ length ys → slice_range (put_mid a k xs ys) a (a + n) ≡ take n ys
-slice_range-put_mid a k n xs ys within fits =
-    let same : (a + n) - a ≡ n = omega arith in
-    let after = post_of a k xs in
-    let behind = drop_at (take a xs) (ys ++ after) a (length-take-le a xs within) in
-    ap (take ((a + n) - a)) behind ∙ ap (λ m. take m (ys ++ after)) same ∙ take-append-le n ys after fits
+put_after : (from room n : ℕ) (old new : List ℕ) → from ≤ length old → n ≤ length new
+    → take from old ++ take n new ≡ take (from + n) (put_mid from room old new)
+put_after from room n old new h k =
+    let after = post_of from room old in
+    ap (λ l. take from old ++ l) (sym (take-append-le n new after k))
+    ∙ sym (take-append-add (take from old) (new ++ after) n)
+    ∙ ap (λ m. take (m + n) (put_mid from room old new)) (length-take-le from old h)
 
 pub loop-done-preserved : goal.loop-done-preserved
 loop-done-preserved g c =
-    let from = c.loop-done.done in
-    let old = c.loop-done.buf in
-    let read = c.read.new.buf in
-    let room = length old - from in
-    let new = put_mid from room old read in
-    let within = c.loop-done.invariant.0 in
-    let part = slice_range-put_mid from room c.in_ok-n.n old read within c.in_ok-n.ensures.bound.0 in
-    let joined = take_split from c.in_ok-n.n old new (take-put_mid_below _ _ _ _ _ (le_refl _) within) in
-    let both = Consumes-trans _ _ _ _ _ c.loop-done.invariant.1 c.in_ok-n.ensures.bytes.0 in
-    (search rules, subst (Consumes _ _) (ap (λ l. take from old ++ l) (sym part) ∙ joined) both)
+    let l = c.loop-done in
+    let read = c.in_ok-n.ensures in
+    let both = Consumes-trans _ _ _ _ _ l.invariant.read read.bytes.0 in
+    let place = put_after l.done (length l.buf - l.done) c.in_ok-n.n l.buf c.read.new.buf l.invariant.within read.bound.0 in
+    record { within = search rules; read = subst (Consumes _ _) place both }

@@ -1,20 +1,22 @@
 -- Every report has room in the lent bytes. Assumes nothing.
-use Rattle.std.proofs.Common.{rules}
+use Rattle.std.proofs.Common.{rules, Result, Ok}
 use Prim.Native.Nat.{ℕ, ◌*◌, ◌≤◌}
 use mathlib.Core.Path.{◌≡◌, refl, ap, ap₂, sym, subst, ◌∙◌}
 use mathlib.Core.List.{List, ◌++◌}
 use native.Mathlib.Omega.{arith}
 use lib.ListN.{length, take, drop, replicate, length-replicate}
 use lib.Seq.{take_at, drop_at}
-use borrow.Author.Tests.{eq-eqb, ne_eqb}
+use borrow.Author.Tests.{eq-eqb, ne_eqb, eqb-false}
 use Rattle.job_text.specs.Put.{Stored}
 use Rattle.machine_state.specs.declared.sequencer.Sequencer.{Sequencer}
 use Rattle.run.specs.Replay.{progress_of}
 use Rattle.run.specs.declared.answers.Progress.{Progress}
 use Rattle.job_records.specs.Job.{known_of}
-use Rattle.job_records.specs.Reader.{job_read_of}
+use Rattle.job_records.specs.Number.{refusal_number, refused_number}
+use Rattle.job_records.specs.declared.refusal.Refusal.{Refusal}
+use Rattle.job_records.proofs.KindTests.{numbered}
 use Rattle.job_records.specs.declared.contents.Job.{Job}
-use Rattle.job_records.specs.declared.jobs.JobRead.{JobRead}
+use Rattle.job_records.specs.Reader.{JobRead, job_read_of, told}
 use Rattle.job_report.specs.Lines.{refused_line, write_lines, row_lines}
 use Rattle.job_report.specs.Report.{probe_lines, last_lines, run_lines, job_lines, report_of, step_lines}
 use Rattle.job_report.specs.Promises.{max_report, Reports}
@@ -65,13 +67,21 @@ job_reports bytes old read e z ready size h =
     reports bytes old (job_is bytes read e z) (job_length read.job ready.sound ready.started) size h
     (λ _. subst (λ (r : JobRead). run_lines r.job ≡ step_lines r.job) e (follows_steps read.job ready.sound ready.started))
 
-pub returns-then-number-ne0 : goal.returns-then-number-ne0
-returns-then-number-ne0 c =
+-- an outcome without refusal
+faultless : {outcome : Result Unit Refusal} {done : Unit} → outcome ≡ Ok done → refused_number outcome ≡ 0
+faultless e = ap refused_number e
+
+pub returns-in-Err : goal.returns-in-Err
+returns-in-Err c =
     let read = c.read_job-read in
     let a = c.args in
-    reports a.job.now a.out.now (refusal_is a.job.now read.result read.ensures.answered c.if-number-ne0.true)
-    (omega (arith, refused_length read.result.number read.result.at)) c.put_refused.ensures.out_len c.put_refused.ensures.stored
-    (λ z. absurd (c.if-number-ne0.true (ap (λ (r : JobRead). r.number) read.ensures.answered ∙ z)))
+    let why = c.in-Err.why in
+    let number : (told read.result).number ≡ c.from.result = ap refused_number c.in-Err.is ∙ sym c.from.ensures in
+    let refused : (told read.result).number ≡ 0 → ⊥ = λ z. eqb-false (refusal_number why) 0 (numbered why) (sym (ap refused_number c.in-Err.is) ∙ z) in
+    let line = refusal_is a.job.now (told read.result) read.ensures.answered refused in
+    reports a.job.now a.out.now (ap (λ (n : ℕ). refused_line n read.result.at) (sym number) ∙ line)
+    (omega (arith, refused_length c.from.result read.result.at)) c.put_refused.ensures.out_len c.put_refused.ensures.stored
+    (λ z. absurd (refused (ap (λ (r : JobRead). r.number) read.ensures.answered ∙ z)))
 
 -- ---- the audit of a job without fault
 
@@ -79,22 +89,22 @@ pub audit_code-verdict-requires : goal.audit_code-verdict-requires
 audit_code-verdict-requires c =
     let read = c.read_job-read in
     let job : Job = read.result.job in
-    let ready : ReadyToRun job = record { sound = read.ensures.sound; started = read.ensures.started c.if-number-ne0.false } in
+    let ready : ReadyToRun job = record { sound = read.ensures.sound; started = read.ensures.started (faultless c.in_default.is) } in
     let size : length job.bounds ≡ 128 = search rules in
     record {
       family_in_bounds = lent_room job c.sequencer_of-sequencer.ensures ready;
       ranges_in_bounds = (bounds_room job ready size, ready.sound.fit.ranges);
     }
 
-pub returns-in_default : goal.returns-in_default
-returns-in_default c =
+pub returns-in_default-verdict : goal.returns-in_default-verdict
+returns-in_default-verdict c =
     let read = c.read_job-read in
     let job : Job = read.result.job in
-    let ready : ReadyToRun job = record { sound = read.ensures.sound; started = read.ensures.started c.if-number-ne0.false } in
+    let ready : ReadyToRun job = record { sound = read.ensures.sound; started = read.ensures.started (faultless c.in_default.is) } in
     let verdict_is = c.audit_code-verdict.ensures ∙ lent_verdict job c.sequencer_of-sequencer.ensures in
     let family_is = ap (λ (q : Sequencer). q.family) c.sequencer_of-sequencer.ensures in
-    let lines = fault_lines job family_is verdict_is c.in_default.is in
-    job_reports c.args.job.now c.args.out.now read.result read.ensures.answered c.if-number-ne0.false ready c.put_verdict.ensures.out_len
+    let lines = fault_lines job family_is verdict_is c.in_default-verdict.is in
+    job_reports c.args.job.now c.args.out.now (told read.result) read.ensures.answered (faultless c.in_default.is) ready c.put_verdict.ensures.out_len
     (stored_as _ _ lines c.put_verdict.ensures.stored)
 
 -- ---- its run, where it passed
@@ -106,7 +116,7 @@ pub run_code-answer-requires : goal.run_code-answer-requires
 run_code-answer-requires c =
     let read = c.read_job-read in
     let job : Job = read.result.job in
-    let ready : ReadyToRun job = record { sound = read.ensures.sound; started = read.ensures.started c.if-number-ne0.false } in
+    let ready : ReadyToRun job = record { sound = read.ensures.sound; started = read.ensures.started (faultless c.in_default.is) } in
     record {
       family_in_bounds = lent_room job c.sequencer_of-sequencer.ensures ready;
       rows_in_bounds = ready.sound.within;
@@ -116,7 +126,7 @@ pub returns-in_default-answer : goal.returns-in_default-answer
 returns-in_default-answer c =
     let read = c.read_job-read in
     let job : Job = read.result.job in
-    let ready : ReadyToRun job = record { sound = read.ensures.sound; started = read.ensures.started c.if-number-ne0.false } in
+    let ready : ReadyToRun job = record { sound = read.ensures.sound; started = read.ensures.started (faultless c.in_default.is) } in
     let runs = lent_run job c.sequencer_of-sequencer.ensures c.run_code-answer.ensures in
     never_refused (sym c.in_default-answer.is ∙ run_ends job ready _ _ _ runs lent)
 
@@ -128,7 +138,7 @@ returns c =
     let lent_bytes : List ℕ = c.args.out.now in
     let read = c.read_job-read in
     let j : Job = read.result.job in
-    let ready : ReadyToRun j = record { sound = read.ensures.sound; started = read.ensures.started c.if-number-ne0.false } in
+    let ready : ReadyToRun j = record { sound = read.ensures.sound; started = read.ensures.started (faultless c.in_default.is) } in
     let verdict_is = c.audit_code-verdict.ensures ∙ lent_verdict j c.sequencer_of-sequencer.ensures in
     let family_is = ap (λ (q : Sequencer). q.family) c.sequencer_of-sequencer.ensures in
     let runs = lent_run j c.sequencer_of-sequencer.ensures c.run_code-answer.ensures in
@@ -145,6 +155,6 @@ returns c =
     (both_stored d at writes (row_lines 0 (known_of j)) (stored_as _ _ pairs c.put_writes-b.ensures) c.put_rows-c.ensures)
     c.put_events-d.ensures)
     (stored_as _ _ (ap (last_lines j.state) ran_job.came) c.put_last.ensures) in
-    job_reports c.args.job.now lent_bytes read.result read.ensures.answered c.if-number-ne0.false ready c.put_verdict-a.ensures.out_len
+    job_reports c.args.job.now lent_bytes (told read.result) read.ensures.answered (faultless c.in_default.is) ready c.put_verdict-a.ensures.out_len
     (stored_as _ _ (pass_lines j family_is verdict_is c.in-Pass.is)
     (both_stored lent_bytes 0 _ (run_lines j) c.put_verdict-a.ensures.stored run))

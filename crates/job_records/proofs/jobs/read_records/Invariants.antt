@@ -6,10 +6,9 @@ use Rattle.event_log.specs.Log.{Log, log_of}
 use Rattle.machine_state.specs.Sequencer.{state_from}
 use Rattle.machine_state.specs.declared.state.State.{State}
 use Rattle.job_records.specs.Job.{empty_job}
-use Rattle.job_records.specs.Reader.{CountsWithin, read_in}
+use Rattle.job_records.specs.Reader.{CountsWithin, JobRead, read_in}
 use Rattle.job_records.specs.declared.contents.Counts.{Counts}
 use Rattle.job_records.specs.declared.contents.Job.{Job}
-use Rattle.job_records.specs.declared.jobs.JobRead.{JobRead}
 use Rattle.probe_captures.specs.declared.extents.Extent.{Extent}
 use Rattle.probe_captures.specs.declared.gates.EventGate.{EventGate}
 use Rattle.probe_captures.specs.declared.masks.Masks.{Masks}
@@ -33,9 +32,9 @@ abbrev pub job_of : Counts → List ℕ → State → Log → Probes → Job
 job_of counts bounds s log probes =
     record { counts = counts; bounds = bounds; state = s; clocks = log.clocks; known = log.known; values = log.values; probes = probes }
 
-abbrev pub invariant-loop-code : goal.invariant-loop-code
-invariant-loop-code l =
+abbrev pub invariant-loop-sequencer : goal.invariant-loop-sequencer
+invariant-loop-sequencer l =
     Inv l.bytes l.at (job_of l.counts l.bounds (state_from l.sequencer l.code l.marks) (log_of l.clocks l.known l.values) (probes_of l.masks l.gates l.extents))
 
-abbrev pub decreases-loop-code : goal.decreases-loop-code
-decreases-loop-code l = length l.bytes - l.at
+abbrev pub decreases-loop-sequencer : goal.decreases-loop-sequencer
+decreases-loop-sequencer l = length l.bytes - l.at

@@ -7,21 +7,21 @@ use Rattle.job_text.proofs.decimal.put_decimal.Goals as goal
 
 pub loop-first-init : goal.loop-first-init
 unfolding decimal_text
-loop-first-init c = record { lent = refl; size = refl; more = omega arith; room = omega arith; made = append-nil (decimal_in 20 c.args.n) }
+loop-first-init c = record { lent = refl; text_size = refl; to_come = omega arith; room = omega arith; made = append-nil (decimal_in 20 c.args.n) }
 
 pub loop-first-preserved : goal.loop-first-preserved
 loop-first-preserved c =
     let l = c.loop-first in
-    let fewer = fewer_digits l.first l.rest l.invariant.room c.if-rest-lt10.false in
-    let next = next_digit l.text l.first l.rest l.invariant.more (omega arith) c.if-rest-lt10.false in
-    record { lent = l.invariant.lent; size = search rules; more = fewer.0; room = fewer.1; made = cc }
+    let fewer = fewer_digits l.first l.rest l.invariant.room c.if-last.false in
+    let next = next_digit l.text l.first l.rest l.invariant.to_come (omega arith) c.if-last.false in
+    record { lent = l.invariant.lent; text_size = search rules; to_come = fewer.0; room = fewer.1; made = cc }
 
-pub returns-then-rest-lt10 : goal.returns-then-rest-lt10
-returns-then-rest-lt10 c =
+pub returns-then-last : goal.returns-then-last
+returns-then-last c =
     let l = c.loop-first in
     let a = c.args in
     let text = set l.text (l.first - 1) (digit (l.rest % 10)) in
-    let last = end l.text l.first l.rest l.invariant.more (omega arith) c.if-rest-lt10.true in
+    let last = end l.text l.first l.rest l.invariant.to_come (omega arith) c.if-last.true in
     let all_digits = between_to_end text (l.first - 1) 20 (search rules) ∙ last ∙ l.invariant.made in
     let put = puts_as l.out a.at _ (decimal_text a.n) c.put_bytes.result c.put_bytes.new.out all_digits c.put_bytes.ensures in
     rw (← l.invariant.lent) (record { puts = put; digits = digits_of a.n })

@@ -6,8 +6,8 @@ use Rattle.job_text.proofs.decimal.put_decimal.Given as goal
 abbrev pub invariant-loop-first : goal.invariant-loop-first
 invariant-loop-first l = record {
   lent : l.out ≡ l.initial.out;
-  size : length l.text ≡ length l.initial.text;
-  more : 0 < l.first;
+  text_size : length l.text ≡ length l.initial.text;
+  to_come : 0 < l.first;
   room : l.rest < 10 ^ l.first;
   made : decimal_in l.first l.rest ++ drop l.first l.text ≡ decimal_text l.n;
 }

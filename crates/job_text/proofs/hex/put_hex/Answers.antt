@@ -6,13 +6,13 @@ use Rattle.job_text.proofs.hex.put_hex.Goals as goal
 
 pub loop-place-init : goal.loop-place-init
 unfolding hex_word
-loop-place-init c = record { size = refl; made = append-nil (hex_in 8 c.args.n) }
+loop-place-init c = record { text_size = refl; made = append-nil (hex_in 8 c.args.n) }
 
 pub loop-place-preserved : goal.loop-place-preserved
 loop-place-preserved c =
     let l = c.loop-place in
     let next = next_digit l.text l.place l.rest (omega arith) (omega arith) in
-    record { size = search rules; made = cc }
+    record { text_size = search rules; made = cc }
 
 pub returns : goal.returns
 returns c =

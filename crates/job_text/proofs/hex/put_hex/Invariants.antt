@@ -5,6 +5,6 @@ use Rattle.job_text.proofs.hex.put_hex.Given as goal
 -- behind the digits still to come stand those that are made
 abbrev pub invariant-loop-place : goal.invariant-loop-place
 invariant-loop-place l = record {
-  size : length l.text ≡ length l.initial.text;
+  text_size : length l.text ≡ length l.initial.text;
   made : hex_in l.place l.rest ++ drop l.place l.text ≡ hex_word l.n;
 }
