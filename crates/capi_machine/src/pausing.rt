@@ -6,6 +6,7 @@ ghost use Rattle.capi_state.specs.Images.{image_state};
 use capi_state::StateImage;
 use machine_flags::Flags;
 
+#[tactic(auto, unfolding(capi_state::specs::Images::image_state))]
 #[unsafe(no_mangle)]
 pub extern "C" fn hwsq_paused(state: StateImage) -> bool
     ensures { result ≡ paused_of (image_state state).family (image_state state).flags }

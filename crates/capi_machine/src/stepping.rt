@@ -101,6 +101,7 @@ impl From<Effect> for EffectNumbers {
 }
 
 impl From<Stepped> for StepReply {
+    #[tactic(auto, unfolding(crate::specs::Stepping::step_reply))]
     fn from(stepped: Stepped) -> StepReply
         ensures { result ≡ step_reply stepped }
     {
