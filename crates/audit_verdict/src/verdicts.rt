@@ -2,6 +2,7 @@
 use isa::{CodeAddress, MmioAddress};
 use refusals::Fault;
 
+// No Result: a fault found is what was asked for, and no caller passes it on as an error of its own.
 #[derive(Clone, Copy)]
 pub enum Verdict {
     Pass {

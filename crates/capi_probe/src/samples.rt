@@ -16,7 +16,7 @@ pub struct SampleReply {
     pub volts: u32,
 }
 
-// The number of a dead gate, the last one.
+// The number of a dead gate, the last one: C hands in a number, and only this call refuses it.
 const DEAD: u8 = 2;
 
 // What a probe's raw pattern says through its gate.

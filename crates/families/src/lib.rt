@@ -1,5 +1,5 @@
 // What differs from one card family to the next. A number that names no family has no code RAM,
-// no slots and neither property.
+// no slots and neither property. A family stays a number and no enum, since every call answers for every u8 (`known_family`).
 #![tactic(auto)]
 
 ghost use Rattle.std.specs.Prelude.{◌≡◌};

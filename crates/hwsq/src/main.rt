@@ -16,7 +16,7 @@ fn main(rt: HostRuntime) -> io::Result<()> {
     rt.stdout().write_all(&out[..k])
 }
 
-// Reads until the buffer is full or the input ends, and answers how many bytes that are.
+// Reads until the buffer is full or the input ends, and answers how many bytes that are. Of std, read_to_end takes a heap and read_exact gives no count.
 fn read_full<R: Read>(reader: &mut R, buf: &mut [u8]) -> io::Result<usize>
     ensures within { ReadsAtMost result buf.new }
     ensures bytes { IfOk result (λ n. Consumes (R.remaining reader.old) (R.remaining reader.new) (take n buf.new)) }

@@ -7,7 +7,7 @@ use crate::row::mask_at;
 use event_log::{Log, Place};
 use log_waits::unused;
 
-// Where the search ended, and the clocks that it passed by.
+// Where the search ended, and the clocks that it passed by. No Option, since both ends carry clocks, and no Result, since neither is an error.
 #[derive(Clone, Copy)]
 pub enum Released {
     At(Place, u64),

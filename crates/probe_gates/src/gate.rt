@@ -13,7 +13,7 @@ pub enum Gate {
     Dead,
 }
 
-// What a probe says of its event. Missing is no reading, and not 0.
+// What a probe says of its event. Missing is no reading, and not 0; of an Option<bool> a None and a Some(false) are easily taken for one another.
 #[derive(Clone, Copy, PartialEq, Eq, Debug)]
 pub enum Reading {
     Zero,
