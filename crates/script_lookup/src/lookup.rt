@@ -18,7 +18,8 @@ fn reached(first: u32, address: u32) -> usize
     ((4294967296 + (address as u64) - (first as u64)) / 4294967296) as usize
 }
 
-// By hand, since firsts and lasts stand in one slice and `Searches` counts the looks. Looks at the middle range, then at one of the half above it or below it. The looks are as many whatever they find, so that no branch depends on it.
+// Looks at the middle range, then at one of the half above it or below it. The looks are as many whatever they find, so that no branch depends on it.
+// By hand, since firsts and lasts stand in one slice, and `Searches` counts the looks.
 pub fn search(ranges: &[u32], address: MmioAddress) -> Lookup
     ensures { Searches ranges.now address.0 result }
 {
