@@ -82,9 +82,7 @@ fn shown_reply(shown: Shown) -> WitnessReply
             clocks,
             ..
         } => told_reply(0, place, count, clocks, shown),
-        Verdict::Fault(fault, place) => {
-            told_reply(u8::from(fault), place, 0, 0, shown)
-        }
+        Verdict::Fault(fault, place) => told_reply(u8::from(fault), place, 0, 0, shown),
     }
 }
 
