@@ -24,7 +24,6 @@ module _ (x : Script) (ranges : List ℕ) (bytes : (i : ℕ) → get_or x.code i
     numbered = ap verdict_number e ∙ audit_numbered x ranges;
     demand3 = subst (Demand3 x ranges) (sym e) (demand3 x ranges bytes);
     witnessed = subst (Witnessed x ranges) (sym e) (audit_witnessed x ranges bytes);
-    bytes = bytes;
     starred = starred;
   }
 

@@ -101,9 +101,9 @@ module _ {x : Script} {ranges : List ℕ} {at : ℕ} {k : Knowledge} (g : Going 
     -- the counts that one more instruction makes still fit
     pub going_fits : (k.count < 1024) × (k.writes < 1024) × (k.clocks + wait_length action < 2 ^ 64)
     going_fits = (
-        omega (arith, g.counted, g.low),
-        omega (arith, g.counted, g.low, g.wrote),
-        rw acts (omega (arith, g.counted, g.low, g.waited, wait_small i)),
+      omega (arith, g.counted, g.low),
+      omega (arith, g.counted, g.low, g.wrote),
+      rw acts (omega (arith, g.counted, g.low, g.waited, wait_small i)),
     )
 
     -- its judgement

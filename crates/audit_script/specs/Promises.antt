@@ -1,5 +1,5 @@
 -- What the auditor promises of its verdict: the defined one, its number, demand 3 about it, and the log that shows it; and what it is on the starred scripts.
-use Rattle.std.specs.Prelude.{ℕ, ◌≡◌, ◌<◌, List, slice_index}
+use Rattle.std.specs.Prelude.{ℕ, ◌≡◌, List}
 use Rattle.script.specs.Script.{Script}
 use Rattle.audit_verdict.specs.Auditor.{verdict_number, audit_of}
 use Rattle.audit_verdict.specs.Numbers.{audit_number}
@@ -15,7 +15,5 @@ pub record Audits (script : Script) (ranges : List ℕ) (answer : Verdict) : Typ
   pub demand3 : Demand3 script ranges answer
   -- a log that the script itself dictates shows it, from every start
   pub witnessed : Witnessed script ranges answer
-  -- the code RAM that the script lies in holds bytes, as its type says
-  pub bytes : (i : ℕ) → slice_index script.code i < 256
   -- of the definition, and so of every answer
   pub starred : Starred

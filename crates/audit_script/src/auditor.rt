@@ -26,8 +26,7 @@ pub fn audit(script: Script<'_>, ranges: &[u32]) -> Verdict
 // Does nothing: of a slice that is a parameter a proof knows that its elements are bytes, and of one in a struct it does not.
 fn are_bytes(code: &[u8])
     ensures { (i : ℕ) → slice_index code.now i < 256 }
-{
-}
+{}
 
 // Why there is no instruction, as the fault with the reader's number.
 fn fault_of(why: Unreadable) -> Fault

@@ -112,8 +112,8 @@ making_first {l = l} w room h = record {
 -- the loop begins so, on its way to the verdict's place
 pub making_begins : (x : Script) (ranges : List ℕ) {place : ℕ} (lent : Log)
     → (input_fits x ranges ≡ true) × (place ≡ place_of (audit_of x ranges))
-        × (max_shown ≤ length lent.clocks) × (max_shown ≤ length lent.known) × (max_shown ≤ length lent.values)
-        × ((i : ℕ) → get_or x.code i 0 < 256)
+    × (max_shown ≤ length lent.clocks) × (max_shown ≤ length lent.known) × (max_shown ≤ length lent.values)
+    × ((i : ℕ) → get_or x.code i 0 < 256)
     → {made : Timeline} → made ≡ nothing_made → Making x ranges place (way x ranges) lent lent x.entry made
 making_begins x ranges lent needs nothing =
     let w = (audit_walked x ranges needs.5 needs.0).walk in

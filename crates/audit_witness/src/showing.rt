@@ -37,6 +37,7 @@ pub fn witness(
     ensures { Witnesses (lent_script script.entry) ranges.now
         (log_of clocks.old known.old values.old) (log_of clocks.new known.new values.new) result }
 {
+    are_bytes(script.ram.code);
     let verdict = audit_script::audit(script, ranges);
     if is_input(verdict) {
         return Err(Unshowable::Input);
@@ -52,6 +53,12 @@ pub fn witness(
         steps: made.steps,
         writes: made.writes,
     })
+}
+
+// Does nothing: of a slice that is a parameter a proof knows that its elements are bytes, and of one in a struct it does not.
+fn are_bytes(code: &[u8])
+    ensures { (i : ℕ) → slice_index code.now i < 256 }
+{
 }
 
 // Whether the auditor was handed no script with ranges.

@@ -85,7 +85,7 @@ impl From<Shown> for WitnessReply {
                 clocks,
                 ..
             } => told_reply(0, place, count, clocks, shown),
-            Verdict::Fault(fault, place) => { told_reply(u8::from(fault), place, 0, 0, shown) }
+            Verdict::Fault(fault, place) => told_reply(u8::from(fault), place, 0, 0, shown),
         }
     }
 }

@@ -16,12 +16,12 @@ returns-then-clocks-lt-MAX_SHOWN c =
 
 pub follow-made-requires : goal.follow-made-requires
 follow-made-requires c = (
-    else_fits _ _ c.audit-verdict.ensures (sym c.is_input.ensures ∙ c.if-is_input.false),
-    c.place_of-place.ensures ∙ ap place_of c.audit-verdict.ensures.answered,
-    c.if-clocks-lt-MAX_SHOWN.false,
-    c.if-known-lt-MAX_SHOWN.false,
-    c.if-values-lt-MAX_SHOWN.false,
-    c.audit-verdict.ensures.bytes,
+  else_fits _ _ c.audit-verdict.ensures (sym c.is_input.ensures ∙ c.if-is_input.false),
+  c.place_of-place.ensures ∙ ap place_of c.audit-verdict.ensures.answered,
+  c.if-clocks-lt-MAX_SHOWN.false,
+  c.if-known-lt-MAX_SHOWN.false,
+  c.if-values-lt-MAX_SHOWN.false,
+  c.are_bytes.ensures,
 )
 
 pub returns : goal.returns
