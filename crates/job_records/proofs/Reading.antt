@@ -1,12 +1,12 @@
 -- The reading of records, one after the other. Assumes nothing.
 use Prim.Native.Nat.{ℕ, zero, suc, ◌+◌, ◌-◌, ◌%◌, ◌≤◌, ◌<◌}
-use mathlib.Core.Path.{◌≡◌, refl, sym, ◌∙◌}
-use mathlib.Core.Bool.{false}
+use mathlib.Core.Path.{◌≡◌, refl, ap, sym, ◌∙◌}
+use mathlib.Core.Bool.{Bool, true, false}
 use mathlib.Core.List.{List, [], ◌∷◌}
 use native.Mathlib.Omega.{arith}
 use lib.ListN.{length, get_or, take, drop, set, length-drop}
 use lib.Seq.{take_all, set-get_or}
-use borrow.Author.Tests.{eq-eqb, ne_eqb}
+use borrow.Author.Tests.{eq-eqb, ne_eqb, eqb-true, eqb-false}
 use lib.Dec.{eqb}
 use Rattle.event_log.specs.Log.{Log, log_of}
 use Rattle.machine_state.specs.declared.state.State.{State}
@@ -59,6 +59,17 @@ module _ (bytes : List ℕ) (at : ℕ) (j : Job) (x : JobRead) where
   unfolding read_in
   read_end zero h l e z r = absurd (let w : ⊥ = omega arith in w)
   read_end (suc g) h l e z r = simp (eq-eqb number_at 0 e, eq-eqb (byte_at rest_at 0) 0 z) at r
+
+  -- either, where reading stops
+  pub read_stop : (number f : ℕ) → at ≤ length bytes → length bytes < at + f → number ≡ number_at → (number ≡ 0 → byte_at rest_at 0 ≡ 0) → read_in f bytes at j ≡ x
+      → read_at number at j ≡ x
+  read_stop number f h l t ends r = by (eqb number 0) refl
+    where
+      by : (none : Bool) → eqb number 0 ≡ none → read_at number at j ≡ x
+      by true e =
+          let zero = eqb-true number 0 e in
+          ap (λ (n : ℕ). read_at n at j) zero ∙ read_end f h l (sym t ∙ zero) (ends zero) r
+      by false e = ap (λ (n : ℕ). read_at n at j) t ∙ read_fault f h l (λ z. eqb-false number 0 e (t ∙ z)) r
 
 -- an element that there is, whatever is told where there is none
 same_element : {A : Type 0} (l : List A) (i : ℕ) (d e : A) → i < length l → get_or l i d ≡ get_or l i e

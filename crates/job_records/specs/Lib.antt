@@ -1,5 +1,6 @@
 pub mod Number
 pub mod Records
+pub mod Kinds
 pub mod Job
 pub mod Refusals
 pub mod Started

@@ -11,7 +11,7 @@ ghost use Rattle.words.specs.Numbers.{byte_at};
 ghost use Rattle.job_records.specs.Inside.{write_tests, RangeRead, RowStored, StateStored};
 
 use crate::contents::Counts;
-use crate::kinds::{END, FAMILY, HOST_WRITE, RANGE, ROW};
+use crate::kinds::RecordKind;
 use crate::listing::test_shape;
 use crate::refusal::Refusal;
 use isa::MmioAddress;
@@ -32,7 +32,7 @@ pub(crate) fn read_family(
     ensures { StateStored rest.now counts (state_from sequencer.old code.old marks.old)
         (state_from sequencer.new code.new marks.new) (refused_number result) }
 {
-    test_shape(rest, FAMILY, counts)?;
+    test_shape(rest, RecordKind::Family, counts)?;
     let family = byte_at(rest, 1);
     if !families::known_family(family) {
         return Err(Refusal::Family);
@@ -53,7 +53,7 @@ pub(crate) fn read_range(
     requires { byte_at rest.now 0 ≡ allowed_range }
     ensures { RangeRead rest.now counts bounds.old bounds.new (refused_number result) }
 {
-    test_shape(rest, RANGE, counts)?;
+    test_shape(rest, RecordKind::Range, counts)?;
     let first = word_at(rest, 1);
     let last = word_at(rest, 5);
     if last < first {
@@ -88,7 +88,7 @@ pub(crate) fn read_write(
     ensures { StateStored rest.now counts (state_from sequencer.old code.old marks.old)
         (state_from sequencer.new code.new marks.new) (refused_number result) }
 {
-    test_shape(rest, HOST_WRITE, counts)?;
+    test_shape(rest, RecordKind::HostWrite, counts)?;
     let address = MmioAddress(word_at(rest, 1));
     let written = host_access::write(*sequencer, address, word_at(rest, 5), code, marks);
     *sequencer = written.sequencer;
@@ -109,7 +109,7 @@ pub(crate) fn read_row(
     ensures { RowStored rest.now counts masks.old masks.new (log_of clocks.old known.old values.old)
         (log_of clocks.new known.new values.new) (refused_number result) }
 {
-    test_shape(rest, ROW, counts)?;
+    test_shape(rest, RecordKind::Row, counts)?;
     let length = long_word(word_at(rest, 1), word_at(rest, 5));
     if !event_log::clocks_in_range(length) {
         return Err(Refusal::Clocks);
@@ -132,7 +132,7 @@ pub(crate) fn read_end(
     requires { byte_at rest.now 0 ≡ end }
     ensures { (code marks : List ℕ) → refused_number result ≡ refusal_of rest.now counts masks (state_from sequencer code marks) }
 {
-    test_shape(rest, END, counts)?;
+    test_shape(rest, RecordKind::End, counts)?;
     if masks.captured != 0 {
         return Err(Refusal::Probe);
     }

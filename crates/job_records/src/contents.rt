@@ -1,10 +1,10 @@
 // What the records read so far say.
-ghost use Rattle.std.specs.Prelude.{◌≡◌, ◌≤◌};
-ghost use Rattle.event_log.specs.Validity.{max_rows};
-ghost use Rattle.job_records.specs.Job.{CountsFit, one_more_of, no_counts, empty_job};
+ghost use Rattle.std.specs.Prelude.{◌≡◌};
+ghost use Rattle.job_records.specs.Job.{CountsFit, no_counts, empty_job};
 ghost use Rattle.job_records.specs.Job.{counted as Job·counted};
+ghost use Rattle.job_records.specs.Kinds.{byte_of};
 
-use crate::kinds::{FAMILY, HOST_WRITE, RANGE, ROW, kind_of};
+use crate::kinds::{RecordKind, kind_of};
 use machine_state::State;
 use probe_captures::{Probes, no_probes};
 
@@ -34,24 +34,34 @@ pub struct Job {
     pub probes: Probes,
 }
 
-fn one_more(wanted: u8, kind: u8, n: usize) -> usize
-    requires { n ≤ max_rows }
-    ensures { result ≡ one_more_of wanted kind n }
-{
-    if kind == wanted { n + 1 } else { n }
-}
-
 // The counts with one record more of this kind.
-pub(crate) fn counted(kind: u8, counts: Counts) -> Counts
+#[tactic(auto, unfolding(crate::specs::Job::one_more_of))]
+pub(crate) fn counted(kind: RecordKind, counts: Counts) -> Counts
     requires { CountsFit counts }
-    ensures { result ≡ Job·counted kind counts }
+    ensures { result ≡ Job·counted (byte_of kind) counts }
 {
-    Counts {
+    let counts = Counts {
         rank: kind_of(kind, counts).rank,
-        families: one_more(FAMILY, kind, counts.families),
-        ranges: one_more(RANGE, kind, counts.ranges),
-        writes: one_more(HOST_WRITE, kind, counts.writes),
-        rows: one_more(ROW, kind, counts.rows),
+        ..counts
+    };
+    match kind {
+        RecordKind::Family => Counts {
+            families: counts.families + 1,
+            ..counts
+        },
+        RecordKind::Range => Counts {
+            ranges: counts.ranges + 1,
+            ..counts
+        },
+        RecordKind::HostWrite => Counts {
+            writes: counts.writes + 1,
+            ..counts
+        },
+        RecordKind::Row => Counts {
+            rows: counts.rows + 1,
+            ..counts
+        },
+        RecordKind::Gate | RecordKind::Capture | RecordKind::End => counts,
     }
 }
 

@@ -6,7 +6,7 @@ ghost use Rattle.job_records.specs.Inside.{RecordsRead};
 use crate::by_kind::{read_end, read_family, read_range, read_row, read_write};
 use crate::by_probe::{event_in, read_capture, read_gate};
 use crate::contents::{Job, counted, empty_job, no_counts};
-use crate::kinds::{CAPTURE, END, FAMILY, GATE, HOST_WRITE, RANGE, ROW, kind_of};
+use crate::kinds::{RecordKind, kind_of};
 use crate::refusal::Refusal;
 use machine_state::state_from;
 use probe_captures::{Probes, no_probes};
@@ -56,49 +56,57 @@ fn read_records(bytes: &[u8]) -> JobRead
     let mut masks = none.masks;
     let mut gates = none.gates;
     let mut extents = none.extents;
-    loop {
+    let outcome = loop {
         let rest = &bytes[at..];
-        let kind = byte_at(rest, 0);
+        let Ok(kind) = RecordKind::try_from(byte_at(rest, 0)) else {
+            break Err(Refusal::Unknown);
+        };
         let outcome = match kind {
-            FAMILY => read_family(rest, counts, &mut sequencer, &mut code, &mut marks),
-            RANGE => read_range(rest, counts, &mut bounds),
-            HOST_WRITE => read_write(rest, counts, &mut sequencer, &mut code, &mut marks),
-            GATE => {
+            RecordKind::Family => {
+                read_family(rest, counts, &mut sequencer, &mut code, &mut marks)
+            }
+            RecordKind::Range => read_range(rest, counts, &mut bounds),
+            RecordKind::HostWrite => {
+                read_write(rest, counts, &mut sequencer, &mut code, &mut marks)
+            }
+            RecordKind::Gate => {
                 let event = event_in(rest);
                 read_gate(rest, counts, &mut masks, &mut gates[event])
             }
-            CAPTURE => {
+            RecordKind::Capture => {
                 let event = event_in(rest);
                 read_capture(rest, counts, &mut masks, gates[event], &mut extents[event])
             }
-            ROW => read_row(
-                rest,
-                counts,
-                &mut masks,
-                &mut clocks,
-                &mut known,
-                &mut values,
-            ),
-            END => read_end(rest, counts, masks, sequencer),
-            _ => Err(Refusal::Unknown),
+            RecordKind::Row => {
+                read_row(
+                    rest,
+                    counts,
+                    &mut masks,
+                    &mut clocks,
+                    &mut known,
+                    &mut values,
+                )
+            }
+            RecordKind::End => break read_end(rest, counts, masks, sequencer),
         };
-        if outcome.is_err() || kind == END {
-            let job = Job {
-                counts,
-                bounds,
-                state: state_from(sequencer, code, marks),
-                clocks,
-                known,
-                values,
-                probes: Probes {
-                    masks,
-                    gates,
-                    extents,
-                },
-            };
-            return JobRead { outcome, at, job };
+        if outcome.is_err() {
+            break outcome;
         }
         at += 1 + kind_of(kind, counts).body;
         counts = counted(kind, counts);
-    }
+    };
+    let job = Job {
+        counts,
+        bounds,
+        state: state_from(sequencer, code, marks),
+        clocks,
+        known,
+        values,
+        probes: Probes {
+            masks,
+            gates,
+            extents,
+        },
+    };
+    JobRead { outcome, at, job }
 }

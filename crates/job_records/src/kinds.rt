@@ -1,25 +1,47 @@
 // The kinds of record.
 ghost use Rattle.std.specs.Prelude.{◌≡◌, ◌≤◌};
+ghost use Rattle.job_records.specs.Kinds.{byte_of, Names};
 ghost use Rattle.job_records.specs.Records.{kind_of, is_out_of_order};
 
 use crate::contents::Counts;
 
-pub(crate) const GATE: u8 = 6;
-
-pub(crate) const CAPTURE: u8 = 5;
-
-pub(crate) const FAMILY: u8 = 4;
-
-pub(crate) const RANGE: u8 = 3;
-
-pub(crate) const HOST_WRITE: u8 = 2;
-
-pub(crate) const ROW: u8 = 1;
-
-pub(crate) const END: u8 = 0;
-
 // The most host writes of a job.
 const MAX_WRITES: usize = 512;
+
+// What a record's first byte says that it is.
+#[derive(Clone, Copy, PartialEq, Eq, Debug)]
+pub enum RecordKind {
+    Family,
+    Range,
+    HostWrite,
+    Gate,
+    Capture,
+    Row,
+    End,
+}
+
+// The byte is that of no kind.
+#[derive(Clone, Copy, PartialEq, Eq, Debug)]
+pub struct NoKind;
+
+impl TryFrom<u8> for RecordKind {
+    type Error = NoKind;
+
+    ghost try_from_gives = { Names };
+
+    fn try_from(byte: u8) -> Result<Self, NoKind> {
+        match byte {
+            4 => Ok(RecordKind::Family),
+            3 => Ok(RecordKind::Range),
+            2 => Ok(RecordKind::HostWrite),
+            6 => Ok(RecordKind::Gate),
+            5 => Ok(RecordKind::Capture),
+            1 => Ok(RecordKind::Row),
+            0 => Ok(RecordKind::End),
+            _ => Err(NoKind),
+        }
+    }
+}
 
 // What is known of a kind, after so many records.
 #[derive(Clone, Copy)]
@@ -52,19 +74,19 @@ fn uncounted(rank: u8, body: usize) -> Kind
 }
 
 // The table of kinds.
-pub(crate) fn kind_of(byte: u8, counts: Counts) -> Kind
-    ensures value { result ≡ kind_of counts byte }
+#[tactic(auto, unfolding(crate::specs::Records::kind_of))]
+pub(crate) fn kind_of(kind: RecordKind, counts: Counts) -> Kind
+    ensures value { result ≡ kind_of counts (byte_of kind) }
     ensures body_bound { result.body ≤ 18 }
 {
-    match byte {
-        FAMILY => entry(1, 1, 1, counts.families),
-        RANGE => entry(2, 8, script::MAX_RANGES, counts.ranges),
-        HOST_WRITE => entry(3, 8, MAX_WRITES, counts.writes),
-        GATE => uncounted(4, 18),
-        CAPTURE => uncounted(5, 5),
-        ROW => entry(5, 16, event_log::MAX_ROWS, counts.rows),
-        END => uncounted(6, 0),
-        _ => entry(0, 0, 0, 0),
+    match kind {
+        RecordKind::Family => entry(1, 1, 1, counts.families),
+        RecordKind::Range => entry(2, 8, script::MAX_RANGES, counts.ranges),
+        RecordKind::HostWrite => entry(3, 8, MAX_WRITES, counts.writes),
+        RecordKind::Gate => uncounted(4, 18),
+        RecordKind::Capture => uncounted(5, 5),
+        RecordKind::Row => entry(5, 16, event_log::MAX_ROWS, counts.rows),
+        RecordKind::End => uncounted(6, 0),
     }
 }
 

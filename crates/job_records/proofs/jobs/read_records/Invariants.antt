@@ -32,9 +32,9 @@ abbrev pub job_of : Counts → List ℕ → State → Log → Probes → Job
 job_of counts bounds s log probes =
     record { counts = counts; bounds = bounds; state = s; clocks = log.clocks; known = log.known; values = log.values; probes = probes }
 
-abbrev pub invariant-loop-sequencer : goal.invariant-loop-sequencer
-invariant-loop-sequencer l =
+abbrev pub invariant-loop-kind : goal.invariant-loop-kind
+invariant-loop-kind l =
     Inv l.bytes l.at (job_of l.counts l.bounds (state_from l.sequencer l.code l.marks) (log_of l.clocks l.known l.values) (probes_of l.masks l.gates l.extents))
 
-abbrev pub decreases-loop-sequencer : goal.decreases-loop-sequencer
-decreases-loop-sequencer l = length l.bytes - l.at
+abbrev pub decreases-loop-kind : goal.decreases-loop-kind
+decreases-loop-kind l = length l.bytes - l.at
