@@ -20,7 +20,8 @@ use Rattle.job_report.specs.Report.{probe_lines, last_lines, run_lines, job_line
 use Rattle.job_report.specs.Promises.{max_report, Reports}
 use Rattle.job_report.specs.JobScript.{job_run}
 use Rattle.job_output.specs.Inside.{pair_lines, ReadyToRun, RanJob}
-use Rattle.job_text.proofs.PutLaws.{both_stored, all_stored, stored_as}
+use Rattle.job_text.proofs.PutLaws.{all_stored, stored_as}
+use Rattle.job_text.proofs.ToldLaws.{both_told, told_as, told_lent}
 use Rattle.job_report.proofs.Lengths.{refused_length, job_length}
 use Rattle.job_report.proofs.JobRuns.{no_gates, follows_steps, tells_steps}
 use Rattle.job_report.proofs.Worked.{worked}
@@ -70,7 +71,8 @@ returns-then-number-ne0 c =
     let read = c.read_job-read in
     let a = c.args in
     reports a.job.now a.out.now (refusal_is a.job.now read.result read.ensures.answered c.if-number-ne0.true)
-    (omega (arith, refused_length read.result.number read.result.at)) c.put_refused.ensures.out_len c.put_refused.ensures.stored
+    (omega (arith, refused_length read.result.number read.result.at)) (sym (ap length c.new-report.ensures.contents) ∙ c.new-report.ensures.size)
+    (told_lent _ c.new-report.ensures.contents c.new-report.ensures.start c.put_refused.ensures (search rules))
     (λ z. absurd (c.if-number-ne0.true (ap (λ (r : JobRead). r.number) read.ensures.answered ∙ z)))
 
 -- ---- the audit of a job without fault
@@ -94,8 +96,8 @@ returns-in_default c =
     let verdict_is = c.audit_code-verdict.ensures ∙ lent_verdict job c.sequencer_of-sequencer.ensures in
     let family_is = ap (λ (q : Sequencer). q.family) c.sequencer_of-sequencer.ensures in
     let lines = fault_lines job family_is verdict_is c.in_default.is in
-    job_reports c.args.job.now c.args.out.now read.result read.ensures.answered c.if-number-ne0.false ready c.put_verdict.ensures.out_len
-    (stored_as _ _ lines c.put_verdict.ensures.stored)
+    job_reports c.args.job.now c.args.out.now read.result read.ensures.answered c.if-number-ne0.false ready (sym (ap length c.new-report.ensures.contents) ∙ c.new-report.ensures.size)
+    (told_lent _ c.new-report.ensures.contents c.new-report.ensures.start (told_as lines c.put_verdict.ensures) (search rules))
 
 -- ---- its run, where it passed
 
@@ -125,7 +127,6 @@ returns-in_default-answer c =
 pub returns : goal.returns
 unfolding run_lines
 returns c =
-    let lent_bytes : List ℕ = c.args.out.now in
     let read = c.read_job-read in
     let j : Job = read.result.job in
     let ready : ReadyToRun j = record { sound = read.ensures.sound; started = read.ensures.started c.if-number-ne0.false } in
@@ -134,17 +135,13 @@ returns c =
     let runs = lent_run j c.sequencer_of-sequencer.ensures c.run_code-answer.ensures in
     let last : Progress = c.in-Ok.last in
     let ran_job : RanJob j last (take (2 * last.writes) c.run_code-answer.new.writes) = ran j ready _ _ _ runs lent last c.in-Ok.is in
-    let d = c.put_verdict-a.new.out in
-    let at = c.put_verdict-a.result in
     let writes = write_lines (job_run j).writes in
     let pairs = ap pair_lines ran_job.wrote ∙ pairs_writes (job_run j).writes in
     let rows = writes ++ row_lines 0 (known_of j) in
     let run =
-    both_stored d at (rows ++ probe_lines j) (last_lines j.state (progress_of (job_run j)))
-    (both_stored d at rows (probe_lines j)
-    (both_stored d at writes (row_lines 0 (known_of j)) (stored_as _ _ pairs c.put_writes-b.ensures) c.put_rows-c.ensures)
-    c.put_events-d.ensures)
-    (stored_as _ _ (ap (last_lines j.state) ran_job.came) c.put_last.ensures) in
-    job_reports c.args.job.now lent_bytes read.result read.ensures.answered c.if-number-ne0.false ready c.put_verdict-a.ensures.out_len
-    (stored_as _ _ (pass_lines j family_is verdict_is c.in-Pass.is)
-    (both_stored lent_bytes 0 _ (run_lines j) c.put_verdict-a.ensures.stored run))
+    both_told (rows ++ probe_lines j) (last_lines j.state (progress_of (job_run j)))
+    (both_told rows (probe_lines j) (both_told writes (row_lines 0 (known_of j)) (told_as pairs c.put_writes.ensures) c.put_rows.ensures) c.put_events.ensures)
+    (told_as (ap (last_lines j.state) ran_job.came) c.put_last.ensures) in
+    let told = told_as (pass_lines j family_is verdict_is c.in-Pass.is) (both_told _ (run_lines j) c.put_verdict-2.ensures run) in
+    job_reports c.args.job.now c.args.out.now read.result read.ensures.answered c.if-number-ne0.false ready (sym (ap length c.new-report.ensures.contents) ∙ c.new-report.ensures.size)
+    (told_lent _ c.new-report.ensures.contents c.new-report.ensures.start told (search rules))
