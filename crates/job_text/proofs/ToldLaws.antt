@@ -1,7 +1,7 @@
 -- Texts told one after the other are one text.
-use Rattle.std.proofs.Common.{◌≡◌, ℕ, List, [], ◌++◌, ◌∙◌, refl, subst}
+use Rattle.std.proofs.Common.{◌≡◌, ℕ, List, [], ◌++◌, length, ◌∙◌, refl, subst}
 use Rattle.job_text.specs.Put.{Stored}
-use Rattle.job_text.specs.Told.{Told}
+use Rattle.job_text.specs.Told.{Starts, Told}
 use Rattle.job_text.specs.declared.report.Report.{Report}
 use Rattle.job_text.proofs.PutLaws.{both_stored, no_text}
 
@@ -17,5 +17,8 @@ pub told_none : (a : Report) → Told a [] a
 told_none a = record { stored = no_text a.out.now a.at; lent = refl }
 
 -- what the lender of a report's buffer has then
-pub told_lent : {d e : List ℕ} {a b : Report} (t : List ℕ) → a.out.now ≡ d → a.at ≡ 0 → Told a t b → e ≡ b.out.now → Stored d 0 t b.at e
-told_lent {b = b} t p z told q = rw (← p, q, ← z) told.stored
+pub told_lent : {old new t : List ℕ} {a b : Report} → Starts old a → Told a t b → new ≡ b.out.now → Stored old 0 t b.at new
+told_lent {b = b} s told e = rw (← s.contents, e, ← s.start) told.stored
+
+pub lent_size : {bytes : List ℕ} {a : Report} → Starts bytes a → length bytes ≡ 65536
+lent_size s = rw s.contents at s.size

@@ -1,5 +1,6 @@
 // A lent buffer, and the place in it where the next text goes.
-ghost use Rattle.std.specs.Prelude.{◌≡◌, length};
+ghost use Rattle.std.specs.Prelude.{◌≡◌};
+ghost use Rattle.job_text.specs.Told.{Starts};
 
 #[derive(Drop)]
 pub struct Report<'a> {
@@ -11,9 +12,7 @@ impl<'a> Report<'a> {
     // A report with no text yet.
     pub fn new(out: &'a mut [u8; 65536]) -> Report<'a>
         ensures lent { result.out.ghost_name ≡ out.entry.ghost_name }
-        ensures contents { result.out.now ≡ out.old }
-        ensures size { length result.out.now ≡ 65536 }
-        ensures start { result.at ≡ 0 }
+        ensures starts { Starts out.old result }
     {
         Report { out, at: 0 }
     }
