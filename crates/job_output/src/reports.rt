@@ -1,9 +1,9 @@
 // The report on a job, whole.
-ghost use Rattle.std.specs.Prelude.{◌≡◌, ◌++◌, ◌≤◌, length, take};
-ghost use Rattle.job_text.specs.Put.{Stored};
+ghost use Rattle.std.specs.Prelude.{◌++◌};
+ghost use Rattle.job_text.specs.Told.{Told};
 ghost use Rattle.job_report.specs.Lines.{family_line};
 ghost use Rattle.job_report.specs.Report.{last_lines};
-ghost use Rattle.job_report.specs.Promises.{max_report, Reports};
+ghost use Rattle.job_report.specs.Promises.{Reports};
 ghost use Rattle.job_output.specs.Inside.{verdict_line};
 
 use crate::lines::{
@@ -12,6 +12,7 @@ use crate::lines::{
 };
 use crate::runs::{audit_code, run_code, status_of};
 use audit_verdict::Verdict;
+use job_text::Report;
 use machine_execution::executing_slot;
 use machine_state::State;
 use run::Progress;
@@ -27,9 +28,11 @@ pub const JOB_BUFFER: usize = job_records::MAX_BYTES + 1;
 pub fn report(job: &[u8], out: &mut [u8; MAX_REPORT]) -> usize
     ensures { Reports job.now out.old out.new result }
 {
+    let mut report = Report::new(out);
     let read = job_records::read_job(job);
     if let Err(why) = read.outcome {
-        return put_refused(out, 0, u8::from(why), read.at);
+        put_refused(&mut report, u8::from(why), read.at);
+        return report.at;
     }
     let sequencer = machine_state::sequencer_of(read.job.state);
     let verdict = audit_code(
@@ -40,7 +43,8 @@ pub fn report(job: &[u8], out: &mut [u8; MAX_REPORT]) -> usize
         read.job.counts.ranges,
     );
     let Verdict::Pass { .. } = verdict else {
-        return put_verdict(out, sequencer.family, verdict);
+        put_verdict(&mut report, sequencer.family, verdict);
+        return report.at;
     };
     // two entries a write, and a script makes at most 170
     let mut entries = [0u32; run_replay::MAX_ENTRIES];
@@ -58,35 +62,35 @@ pub fn report(job: &[u8], out: &mut [u8; MAX_REPORT]) -> usize
         // never: the rows are a log, and the script fits its family
         return 0;
     };
-    let a = put_verdict(out, sequencer.family, verdict);
-    let b = put_writes(out, a, &entries[..2 * last.writes]);
-    let c = put_rows(out, b, &read.job.known[..read.job.counts.rows]);
-    let d = put_events(out, c, read.job.probes);
-    put_last(out, d, read.job.state, last)
+    put_verdict(&mut report, sequencer.family, verdict);
+    put_writes(&mut report, &entries[..2 * last.writes]);
+    put_rows(&mut report, &read.job.known[..read.job.counts.rows]);
+    put_events(&mut report, read.job.probes);
+    put_last(&mut report, read.job.state, last);
+    report.at
 }
 
 // The family, and the verdict on the script.
-fn put_verdict(out: &mut [u8; MAX_REPORT], family: u8, verdict: Verdict) -> usize
-    ensures stored { Stored out.old 0 (family_line family ++ verdict_line verdict) result out.new }
-    ensures out_len { length out.old ≡ max_report }
+fn put_verdict(report: &mut Report<'_>, family: u8, verdict: Verdict)
+    ensures { Told report.old (family_line family ++ verdict_line verdict) report.new }
 {
-    let a = put_family(out, 0, family);
+    put_family(report, family);
     match verdict {
         Verdict::Pass {
             place,
             count,
             writes,
             clocks,
-        } => put_pass(out, a, place.0, count, writes, clocks),
-        Verdict::Fault(fault, place) => { put_fault(out, a, u8::from(fault), place.0) }
+        } => put_pass(report, place.0, count, writes, clocks),
+        Verdict::Fault(fault, place) => put_fault(report, u8::from(fault), place.0),
     }
 }
 
 // How the run ended, and what STATUS shows then.
-fn put_last(out: &mut [u8; MAX_REPORT], at: usize, state: State, last: Progress) -> usize
-    ensures { Stored out.old at (last_lines state last) result out.new }
+fn put_last(report: &mut Report<'_>, state: State, last: Progress)
+    ensures { Told report.old (last_lines state last) report.new }
 {
-    let a = put_end(out, at, last.slot.mode, last.place);
+    put_end(report, last.slot.mode, last.place);
     let after = machine_state::with_slot(state, executing_slot(state), last.slot, last.flags);
-    put_status(out, a, status_of(after))
+    put_status(report, status_of(after));
 }

@@ -1,6 +1,9 @@
 // Bytes as they are.
 ghost use Rattle.std.specs.Prelude.{◌≡◌};
 ghost use Rattle.job_text.specs.Put.{put, after, Puts};
+ghost use Rattle.job_text.specs.Told.{Told};
+
+use crate::report::Report;
 
 // Stores the text in a buffer of any length, where it has room.
 fn store(out: &mut [u8], at: usize, text: &[u8]) -> usize
@@ -15,9 +18,13 @@ fn store(out: &mut [u8], at: usize, text: &[u8]) -> usize
     end
 }
 
-// Puts the text at a place of the buffer, and answers the place after it.
-pub fn put_bytes(out: &mut [u8; 65536], at: usize, text: &[u8]) -> usize
-    ensures { Puts out.old at text.now result out.new }
-{
-    store(out, at, text)
+impl Report<'_> {
+    // Puts the text at the report's place, which is the place after it then.
+    pub fn bytes(&mut self, text: &[u8])
+        ensures puts { Puts self.old.out.now self.old.at text.now self.new.at self.new.out.now }
+        ensures told { Told self.old text.now self.new }
+    {
+        let at = self.at;
+        self.at = store(self.out, at, text);
+    }
 }

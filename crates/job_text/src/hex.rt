@@ -1,9 +1,10 @@
 // A word in hex.
 ghost use Rattle.std.specs.Prelude.{◌≡◌};
-ghost use Rattle.job_text.specs.Digits.{hex_digit};
+ghost use Rattle.job_text.specs.Digits.{hex_digit, hex_word};
 ghost use Rattle.job_text.specs.Put.{PutsHex};
+ghost use Rattle.job_text.specs.Told.{Told};
 
-use crate::bytes::put_bytes;
+use crate::report::Report;
 
 const WIDTH: usize = 8;
 
@@ -19,15 +20,18 @@ fn hex_digit(n: u32) -> u8
     }
 }
 
-// Puts the word's eight digits at a place of the buffer, and answers the place after them.
-pub fn put_hex(out: &mut [u8; 65536], at: usize, n: u32) -> usize
-    ensures { PutsHex out.old at n result out.new }
-{
-    let mut text = [0u8; WIDTH];
-    let mut rest = n;
-    for place in (0..WIDTH).rev() {
-        text[place] = hex_digit(rest);
-        rest /= 16;
+impl Report<'_> {
+    // Puts the word's eight digits at the report's place, which is the place after them then.
+    pub fn hex(&mut self, n: u32)
+        ensures puts { PutsHex self.old.out.now self.old.at n self.new.at self.new.out.now }
+        ensures told { Told self.old (hex_word n) self.new }
+    {
+        let mut text = [0u8; WIDTH];
+        let mut rest = n;
+        for place in (0..WIDTH).rev() {
+            text[place] = hex_digit(rest);
+            rest /= 16;
+        }
+        self.bytes(&text);
     }
-    put_bytes(out, at, &text)
 }

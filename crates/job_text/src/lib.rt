@@ -1,11 +1,10 @@
-// Text put into a lent buffer: bytes, decimals and hex digits. A text that has no room is not stored at all,
-// and the answer is then the place where it was to stand.
+// A report: bytes, decimals and hex digits put into a lent buffer, one after the other. A text that has no room is not stored at
+// all, and the next one is then to stand where it was to stand.
 #![tactic(auto)]
 
 mod bytes;
 mod decimal;
 mod hex;
+mod report;
 
-pub use bytes::put_bytes;
-pub use decimal::put_decimal;
-pub use hex::put_hex;
+pub use report::Report;

@@ -7,7 +7,8 @@ use native.Mathlib.Omega.{arith}
 use lib.ListN.{length, take, drop, replicate, length-replicate}
 use lib.Seq.{take_at, drop_at}
 use borrow.Author.Tests.{eq-eqb, ne_eqb, eqb-false}
-use Rattle.job_text.specs.Put.{Stored}
+use Rattle.job_text.specs.Told.{Starts, Told}
+use Rattle.job_text.specs.declared.report.Report.{Report}
 use Rattle.machine_state.specs.declared.sequencer.Sequencer.{Sequencer}
 use Rattle.run.specs.Replay.{progress_of}
 use Rattle.run.specs.declared.answers.Progress.{Progress}
@@ -22,7 +23,8 @@ use Rattle.job_report.specs.Report.{probe_lines, last_lines, run_lines, job_line
 use Rattle.job_report.specs.Promises.{max_report, Reports}
 use Rattle.job_report.specs.JobScript.{job_run}
 use Rattle.job_output.specs.Inside.{pair_lines, ReadyToRun, RanJob}
-use Rattle.job_text.proofs.PutLaws.{both_stored, all_stored, stored_as}
+use Rattle.job_text.proofs.PutLaws.{all_stored}
+use Rattle.job_text.proofs.ToldLaws.{both_told, told_as, told_lent, lent_size}
 use Rattle.job_report.proofs.Lengths.{refused_length, job_length}
 use Rattle.job_report.proofs.JobRuns.{no_gates, follows_steps, tells_steps}
 use Rattle.job_report.proofs.Worked.{worked}
@@ -32,13 +34,13 @@ use Rattle.job_output.proofs.ScriptLaws.{never_refused, run_ends, ran}
 use Rattle.job_output.proofs.reports.report.Goals as goal
 
 -- the defined report, at the start of the lent bytes
-reports : (bytes old : List ℕ) {t : List ℕ} {r : ℕ} {new : List ℕ}
-    → t ≡ report_of bytes → length t ≤ max_report → length old ≡ max_report → Stored old 0 t r new
-    → ((job_read_of bytes).number ≡ 0 → run_lines (job_read_of bytes).job ≡ step_lines (job_read_of bytes).job) → Reports bytes old new r
-reports bytes old e fits size h follows =
+reports : (bytes old : List ℕ) {t new : List ℕ} {a b : Report}
+    → t ≡ report_of bytes → length t ≤ max_report → Starts old a → Told a t b → new ≡ b.out.now
+    → ((job_read_of bytes).number ≡ 0 → run_lines (job_read_of bytes).job ≡ step_lines (job_read_of bytes).job) → Reports bytes old new b.at
+reports bytes old e fits starts texts ends follows =
+    let size = lent_size starts in
     let room : length (report_of bytes) ≤ length old = subst (λ (t : List ℕ). length t ≤ length old) e (omega arith) in
-    let stored = stored_as old 0 e h in
-    let w = all_stored old (report_of bytes) room stored in
+    let w = all_stored old (report_of bytes) room (told_lent starts (told_as e texts) ends) in
     let n = length (report_of bytes) in
     let told = ap₂ take w.0 w.1 ∙ take_at (report_of bytes) (drop n old) n refl in
     let kept = ap₂ drop w.0 w.1 ∙ drop_at (report_of bytes) (drop n old) n refl ∙ ap (λ (k : ℕ). drop k old) (sym w.0) in
@@ -61,10 +63,10 @@ unfolding report_of
 job_is bytes read e z = rw (← e) (simp (eq-eqb read.number 0 z))
 
 -- the same of a job without fault
-job_reports : (bytes old : List ℕ) (read : JobRead) → read ≡ job_read_of bytes → read.number ≡ 0 → ReadyToRun read.job → length old ≡ max_report
-    → {r : ℕ} {new : List ℕ} → Stored old 0 (job_lines read.job) r new → Reports bytes old new r
-job_reports bytes old read e z ready size h =
-    reports bytes old (job_is bytes read e z) (job_length read.job ready.sound ready.started) size h
+job_reports : (bytes old : List ℕ) (read : JobRead) → read ≡ job_read_of bytes → read.number ≡ 0 → ReadyToRun read.job
+    → {new : List ℕ} {a b : Report} → Starts old a → Told a (job_lines read.job) b → new ≡ b.out.now → Reports bytes old new b.at
+job_reports bytes old read e z ready starts texts ends =
+    reports bytes old (job_is bytes read e z) (job_length read.job ready.sound ready.started) starts texts ends
     (λ _. subst (λ (r : JobRead). run_lines r.job ≡ step_lines r.job) e (follows_steps read.job ready.sound ready.started))
 
 -- an outcome without refusal
@@ -80,7 +82,7 @@ returns-in-Err c =
     let refused : (told read.result).number ≡ 0 → ⊥ = λ z. eqb-false (refusal_number why) 0 (numbered why) (sym (ap refused_number c.in-Err.is) ∙ z) in
     let line = refusal_is a.job.now (told read.result) read.ensures.answered refused in
     reports a.job.now a.out.now (ap (λ (n : ℕ). refused_line n read.result.at) (sym number) ∙ line)
-    (omega (arith, refused_length c.from.result read.result.at)) c.put_refused.ensures.out_len c.put_refused.ensures.stored
+    (omega (arith, refused_length c.from.result read.result.at)) c.new-report.ensures.starts c.put_refused.ensures (search rules)
     (λ z. absurd (refused (ap (λ (r : JobRead). r.number) read.ensures.answered ∙ z)))
 
 -- ---- the audit of a job without fault
@@ -104,8 +106,8 @@ returns-in_default-verdict c =
     let verdict_is = c.audit_code-verdict.ensures ∙ lent_verdict job c.sequencer_of-sequencer.ensures in
     let family_is = ap (λ (q : Sequencer). q.family) c.sequencer_of-sequencer.ensures in
     let lines = fault_lines job family_is verdict_is c.in_default-verdict.is in
-    job_reports c.args.job.now c.args.out.now (told read.result) read.ensures.answered (faultless c.in_default.is) ready c.put_verdict.ensures.out_len
-    (stored_as _ _ lines c.put_verdict.ensures.stored)
+    job_reports c.args.job.now c.args.out.now (told read.result) read.ensures.answered (faultless c.in_default.is) ready c.new-report.ensures.starts
+    (told_as lines c.put_verdict.ensures) (search rules)
 
 -- ---- its run, where it passed
 
@@ -135,7 +137,6 @@ returns-in_default-answer c =
 pub returns : goal.returns
 unfolding run_lines
 returns c =
-    let lent_bytes : List ℕ = c.args.out.now in
     let read = c.read_job-read in
     let j : Job = read.result.job in
     let ready : ReadyToRun j = record { sound = read.ensures.sound; started = read.ensures.started (faultless c.in_default.is) } in
@@ -144,17 +145,13 @@ returns c =
     let runs = lent_run j c.sequencer_of-sequencer.ensures c.run_code-answer.ensures in
     let last : Progress = c.in-Ok.last in
     let ran_job : RanJob j last (take (2 * last.writes) c.run_code-answer.new.writes) = ran j ready _ _ _ runs lent last c.in-Ok.is in
-    let d = c.put_verdict-a.new.out in
-    let at = c.put_verdict-a.result in
     let writes = write_lines (job_run j).writes in
     let pairs = ap pair_lines ran_job.wrote ∙ pairs_writes (job_run j).writes in
     let rows = writes ++ row_lines 0 (known_of j) in
     let run =
-    both_stored d at (rows ++ probe_lines j) (last_lines j.state (progress_of (job_run j)))
-    (both_stored d at rows (probe_lines j)
-    (both_stored d at writes (row_lines 0 (known_of j)) (stored_as _ _ pairs c.put_writes-b.ensures) c.put_rows-c.ensures)
-    c.put_events-d.ensures)
-    (stored_as _ _ (ap (last_lines j.state) ran_job.came) c.put_last.ensures) in
-    job_reports c.args.job.now lent_bytes (told read.result) read.ensures.answered (faultless c.in_default.is) ready c.put_verdict-a.ensures.out_len
-    (stored_as _ _ (pass_lines j family_is verdict_is c.in-Pass.is)
-    (both_stored lent_bytes 0 _ (run_lines j) c.put_verdict-a.ensures.stored run))
+    both_told (rows ++ probe_lines j) (last_lines j.state (progress_of (job_run j)))
+    (both_told rows (probe_lines j) (both_told writes (row_lines 0 (known_of j)) (told_as pairs c.put_writes.ensures) c.put_rows.ensures) c.put_events.ensures)
+    (told_as (ap (last_lines j.state) ran_job.came) c.put_last.ensures) in
+    let all_told = told_as (pass_lines j family_is verdict_is c.in-Pass.is) (both_told _ (run_lines j) c.put_verdict-2.ensures run) in
+    job_reports c.args.job.now c.args.out.now (told read.result) read.ensures.answered (faultless c.in_default.is) ready c.new-report.ensures.starts all_told
+    (search rules)

@@ -1,8 +1,9 @@
 use Rattle.std.proofs.Common.{◌≡◌, ◌∙◌, refl, rules, arith, append-nil}
 use Rattle.job_text.specs.Digits.{hex_in, hex_word}
 use Rattle.job_text.proofs.PutLaws.{puts_as}
+use Rattle.job_text.proofs.ToldLaws.{told_as}
 use Rattle.job_text.proofs.HexLaws.{next_digit, end, eight, reads_back}
-use Rattle.job_text.proofs.hex.put_hex.Goals as goal
+use Rattle.job_text.proofs.report.Report.hex.Goals as goal
 
 pub loop-place-init : goal.loop-place-init
 unfolding hex_word
@@ -20,7 +21,6 @@ returns c =
     let a = c.args in
     let word : l.text ≡ hex_word a.n = end l.text l.place l.rest (omega arith) ∙ l.invariant.made in
     record {
-      puts = puts_as a.out.now a.at l.text (hex_word a.n) c.put_bytes.result c.put_bytes.new.out word c.put_bytes.ensures;
-      eight = eight a.n;
-      reads_back = reads_back a.n;
+      puts = record { puts = puts_as _ _ _ (hex_word a.n) _ _ word c.bytes.ensures.puts; eight = eight a.n; reads_back = reads_back a.n };
+      told = told_as word c.bytes.ensures.told;
     }

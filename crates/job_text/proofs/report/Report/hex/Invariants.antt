@@ -1,6 +1,6 @@
 use Rattle.std.proofs.Common.{◌≡◌, ◌++◌, length, drop}
 use Rattle.job_text.specs.Digits.{hex_in, hex_word}
-use Rattle.job_text.proofs.hex.put_hex.Given as goal
+use Rattle.job_text.proofs.report.Report.hex.Given as goal
 
 -- behind the digits still to come stand those that are made
 abbrev pub invariant-loop-place : goal.invariant-loop-place

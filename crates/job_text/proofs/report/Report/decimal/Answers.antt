@@ -2,8 +2,9 @@ use Rattle.std.proofs.Common.{◌-◌, ◌%◌, ◌∙◌, set, refl, rules, ari
 use Rattle.std.proofs.lemmas.Slice.{between_to_end}
 use Rattle.job_text.specs.Digits.{digit, decimal_in, decimal_text}
 use Rattle.job_text.proofs.PutLaws.{puts_as}
+use Rattle.job_text.proofs.ToldLaws.{told_as}
 use Rattle.job_text.proofs.DecimalLaws.{next_digit, end, fewer_digits, digits_of}
-use Rattle.job_text.proofs.decimal.put_decimal.Goals as goal
+use Rattle.job_text.proofs.report.Report.decimal.Goals as goal
 
 pub loop-first-init : goal.loop-first-init
 unfolding decimal_text
@@ -23,5 +24,5 @@ returns-then-last c =
     let text = set l.text (l.first - 1) (digit (l.rest % 10)) in
     let last = end l.text l.first l.rest l.invariant.to_come (omega arith) c.if-last.true in
     let all_digits = between_to_end text (l.first - 1) 20 (search rules) ∙ last ∙ l.invariant.made in
-    let put = puts_as l.out a.at _ (decimal_text a.n) c.put_bytes.result c.put_bytes.new.out all_digits c.put_bytes.ensures in
-    rw (← l.invariant.lent) (record { puts = put; digits = digits_of a.n })
+    let put = puts_as _ _ _ (decimal_text a.n) _ _ all_digits c.bytes.ensures.puts in
+    rw (← l.invariant.lent) (record { puts = record { puts = put; digits = digits_of a.n }; told = told_as all_digits c.bytes.ensures.told })
