@@ -81,12 +81,10 @@ pub(crate) fn no_counts() -> Counts
 pub(crate) fn empty_job() -> Job
     ensures { result ≡ empty_job }
 {
-    let fresh = host_fresh::fresh_state(0);
-    let state = fresh.state;
     Job {
         counts: no_counts(),
         bounds: [0u32; 128],
-        state,
+        state: host_fresh::fresh_state(0).state,
         clocks: [0u64; 1024],
         known: [0u32; 1024],
         values: [0u32; 1024],

@@ -46,7 +46,7 @@ impl TryFrom<u8> for RecordKind {
 // What is known of a kind, after so many records.
 #[derive(Clone, Copy)]
 pub struct Kind {
-    // its place in the order, from 1; 0 for a kind that there is not
+    // its place in the order, from 1
     pub rank: u8,
     // how many bytes follow the byte of kind
     pub body: usize,
@@ -78,6 +78,7 @@ fn uncounted(rank: u8, body: usize) -> Kind
 pub(crate) fn kind_of(kind: RecordKind, counts: Counts) -> Kind
     ensures value { result ≡ kind_of counts (byte_of kind) }
     ensures body_bound { result.body ≤ 18 }
+    ensures rank_bound { 1 ≤ result.rank }
 {
     match kind {
         RecordKind::Family => entry(1, 1, 1, counts.families),
@@ -91,6 +92,7 @@ pub(crate) fn kind_of(kind: RecordKind, counts: Counts) -> Kind
 }
 
 // Ranks never fall from one record to the next, and the first record is of the first rank.
+#[tactic(auto, unfolding(crate::specs::Records::is_out_of_order))]
 pub(crate) fn is_out_of_order(last: u8, kind: Kind) -> bool
     ensures { result ≡ is_out_of_order last kind }
 {
