@@ -1,4 +1,4 @@
--- Laws of texts in a buffer. `then` and `whole` are for callers: texts put one after the other are one text.
+-- Laws of texts in a buffer: texts put one after the other are one text.
 use mathlib.Core.Path.{◌≡◌, refl, ap, sym, ◌∙◌}
 use mathlib.Core.List.{List, [], ◌++◌, append_assoc, append-nil}
 use Prim.Native.Nat.{ℕ, ◌+◌, ◌-◌, ◌≤◌, ◌<◌}
@@ -122,10 +122,6 @@ put_none d at h =
 -- where a run of texts begins
 pub no_text : (d : List ℕ) (at : ℕ) → Stored d at [] at d
 no_text d at room = (omega arith, sym (put_none d at (omega arith)))
-
--- a text by another name
-pub stored_as : (d : List ℕ) (at : ℕ) {t u : List ℕ} {r : ℕ} {e : List ℕ} → t ≡ u → Stored d at t r e → Stored d at u r e
-stored_as d at {t} {u} {r} {e} q p = rw (← q) p
 
 -- a text at the buffer's start, with the rest as lent
 pub all_stored : (d t : List ℕ) {r : ℕ} {e : List ℕ}

@@ -9,7 +9,7 @@ pub record Starts (bytes : List ℕ) (new : Report) : Type 0 where
   pub size : length new.out.now ≡ 65536
   pub start : new.at ≡ 0
 
--- t was put at the place of the report, which is the place after it then; the buffer is the one that was lent
+-- t was put at the place of the report, which is the place after it then, if it has room; the buffer is the one that was lent
 pub record Told (old : Report) (t : List ℕ) (new : Report) : Type 0 where
   pub stored : Stored old.out.now old.at t new.at new.out.now
   pub lent : new.out.ghost_name ≡ old.out.ghost_name
