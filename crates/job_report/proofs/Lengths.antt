@@ -26,7 +26,8 @@ use Rattle.job_text.proofs.DecimalLaws.{within, short}
 use Rattle.job_text.proofs.HexLaws.{eight}
 use Rattle.job_text.specs.Digits.{decimal_text, hex_word}
 use Rattle.job_report.specs.Lines.{named, hex_named, refused_line, family_line, fault_line, pass_line}
-use Rattle.job_report.specs.Lines.{write_line, write_lines, row_line, row_lines, extremes_named, event_line, gated_line, event_lines, ending_text, end_line, status_line}
+use Rattle.job_report.specs.Lines.{write_line, write_lines, row_line, row_lines, extremes_named}
+use Rattle.job_report.specs.Lines.{event_line, gated_line, event_lines, ending_text, end_line, status_line}
 use Rattle.job_report.specs.Report.{run_lines, verdict_lines, job_lines}
 use Rattle.job_report.specs.Promises.{max_report}
 use Rattle.run.specs.Replay.{ending_of}
