@@ -58,8 +58,7 @@ pub fn witness(
 // Does nothing: of a slice that is a parameter a proof knows that its elements are bytes, and of one in a struct it does not.
 fn are_bytes(code: &[u8])
     ensures { (i : ℕ) → slice_index code.now i < 256 }
-{
-}
+{}
 
 // Whether the auditor was handed no script with ranges.
 fn is_input(verdict: Verdict) -> bool
