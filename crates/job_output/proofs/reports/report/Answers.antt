@@ -142,5 +142,5 @@ returns c =
     both_told (rows ++ probe_lines j) (last_lines j.state (progress_of (job_run j)))
     (both_told rows (probe_lines j) (both_told writes (row_lines 0 (known_of j)) (told_as pairs c.put_writes.ensures) c.put_rows.ensures) c.put_events.ensures)
     (told_as (ap (last_lines j.state) ran_job.came) c.put_last.ensures) in
-    let told = told_as (pass_lines j family_is verdict_is c.in-Pass.is) (both_told _ (run_lines j) c.put_verdict-2.ensures run) in
-    job_reports c.args.job.now c.args.out.now read.result read.ensures.answered c.if-number-ne0.false ready c.new-report.ensures.starts told (search rules)
+    let lines = told_as (pass_lines j family_is verdict_is c.in-Pass.is) (both_told _ (run_lines j) c.put_verdict-2.ensures run) in
+    job_reports c.args.job.now c.args.out.now read.result read.ensures.answered c.if-number-ne0.false ready c.new-report.ensures.starts lines (search rules)
