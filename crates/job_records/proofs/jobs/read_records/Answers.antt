@@ -92,7 +92,8 @@ stops input at job number inv short reached ends =
     let kept = reached.kept ends in
     let fuel = inv.3 in
     let within : CountsWithin max_bytes job.probes = λ event. omega (arith, inv.2 event, inv.0, short) in
-    let passed : number ≡ 0 → Clear rest job.counts job.probes.masks job.state = λ z. clear rest job.counts job.probes.masks job.state (sym reached.tested ∙ z) in
+    let passed : number ≡ 0 → Clear rest job.counts job.probes.masks job.state = λ z. clear rest job.counts job.probes.masks job.state
+    (sym reached.tested ∙ z) in
     subst (λ (j : Job). RecordsRead input (read_at number at j)) (sym kept) (record {
       answered = read_stop input at job (from_start input) number fuel.0 inv.0 fuel.1 reached.tested ends fuel.2;
       sound = going_sound job inv.1 within;
@@ -148,22 +149,32 @@ loop-kind-preserved c =
     let is = sym (c.in-Ok.ensures ∙ c.byte_at.ensures) in
     let turn : Reached rest job (refused_number m.outcome) after × (byte_at rest 0 ≡ 0 → ⊥) =
     elim m.branch [
-      | in-Family w ↦ turned same w.bounds-is w.sequencer-is w.code-is w.marks-is w.clocks-is w.known-is w.values-is w.masks-is w.gates-is w.extents-is w.outcome-is
+      | in-Family w ↦ turned same w.bounds-is w.sequencer-is w.code-is w.marks-is w.clocks-is w.known-is w.values-is w.masks-is w.gates-is w.extents-is
+          w.outcome-is
           (is ∙ ap byte_of w.in-Family.is) (omega arith)
-          (state_reached lent job _ 4 (is ∙ ap byte_of w.in-Family.is) (omega arith) of_state_4 (w.read_family-outcome.ensures.tested job.probes.masks) w.read_family-outcome.ensures.state)
-      | in-Range w ↦ turned same w.bounds-is w.sequencer-is w.code-is w.marks-is w.clocks-is w.known-is w.values-is w.masks-is w.gates-is w.extents-is w.outcome-is
+          (state_reached lent job _ 4 (is ∙ ap byte_of w.in-Family.is) (omega arith) of_state_4 (w.read_family-outcome.ensures.tested job.probes.masks)
+          w.read_family-outcome.ensures.state)
+      | in-Range w ↦ turned same w.bounds-is w.sequencer-is w.code-is w.marks-is w.clocks-is w.known-is w.values-is w.masks-is w.gates-is w.extents-is
+          w.outcome-is
           (is ∙ ap byte_of w.in-Range.is) (omega arith)
           (range_reached lent job _ (is ∙ ap byte_of w.in-Range.is) w.read_range-outcome.ensures)
-      | in-HostWrite w ↦ turned same w.bounds-is w.sequencer-is w.code-is w.marks-is w.clocks-is w.known-is w.values-is w.masks-is w.gates-is w.extents-is w.outcome-is
+      | in-HostWrite w ↦ turned same w.bounds-is w.sequencer-is w.code-is w.marks-is w.clocks-is w.known-is w.values-is w.masks-is w.gates-is w.extents-is
+          w.outcome-is
           (is ∙ ap byte_of w.in-HostWrite.is) (omega arith)
-          (state_reached lent job _ 2 (is ∙ ap byte_of w.in-HostWrite.is) (omega arith) of_state_2 (w.read_write-outcome.ensures.tested job.probes.masks) w.read_write-outcome.ensures.state)
-      | in-Gate w ↦ turned same w.bounds-is w.sequencer-is w.code-is w.marks-is w.clocks-is w.known-is w.values-is w.masks-is w.gates-is w.extents-is w.outcome-is
+          (state_reached lent job _ 2 (is ∙ ap byte_of w.in-HostWrite.is) (omega arith) of_state_2 (w.read_write-outcome.ensures.tested job.probes.masks)
+          w.read_write-outcome.ensures.state)
+      | in-Gate w ↦ turned same w.bounds-is w.sequencer-is w.code-is w.marks-is w.clocks-is w.known-is w.values-is w.masks-is w.gates-is w.extents-is
+          w.outcome-is
           (is ∙ ap byte_of w.in-Gate.is) (omega arith)
           (gate_reached lent job _ w.event_in-event.ensures.value (is ∙ ap byte_of w.in-Gate.is) _ w.read_gate-outcome.ensures)
-      | in-Capture w ↦ turned same w.bounds-is w.sequencer-is w.code-is w.marks-is w.clocks-is w.known-is w.values-is w.masks-is w.gates-is w.extents-is w.outcome-is
+      | in-Capture w ↦ turned same w.bounds-is w.sequencer-is w.code-is w.marks-is w.clocks-is w.known-is w.values-is w.masks-is w.gates-is w.extents-is
+          w.outcome-is
           (is ∙ ap byte_of w.in-Capture.is) (omega arith)
-          (capture_reached lent job _ w.event_in-event-in-Capture.ensures.value (is ∙ ap byte_of w.in-Capture.is) (omega (arith, w.event_in-event-in-Capture.ensures.upper_bound, size.gates)) (omega (arith, w.event_in-event-in-Capture.ensures.upper_bound, size.extents)) _ _ w.read_capture-outcome.ensures)
-      | in-Row w ↦ turned same w.bounds-is w.sequencer-is w.code-is w.marks-is w.clocks-is w.known-is w.values-is w.masks-is w.gates-is w.extents-is w.outcome-is
+          (capture_reached lent job _ w.event_in-event-in-Capture.ensures.value (is ∙ ap byte_of w.in-Capture.is)
+          (omega (arith, w.event_in-event-in-Capture.ensures.upper_bound, size.gates))
+          (omega (arith, w.event_in-event-in-Capture.ensures.upper_bound, size.extents)) _ _ w.read_capture-outcome.ensures)
+      | in-Row w ↦ turned same w.bounds-is w.sequencer-is w.code-is w.marks-is w.clocks-is w.known-is w.values-is w.masks-is w.gates-is w.extents-is
+          w.outcome-is
           (is ∙ ap byte_of w.in-Row.is) (omega arith)
           (row_reached lent job _ (is ∙ ap byte_of w.in-Row.is) w.read_row-outcome.ensures)
     ] in
@@ -204,26 +215,37 @@ returns c =
           let turn : Reached rest job (refused_number n.outcome) (job_of c.loop-kind.counts n.bounds (state_from n.sequencer n.code n.marks)
           (log_of n.clocks n.known n.values) (probes_of n.masks n.gates n.extents)) × (byte_at rest 0 ≡ 0 → ⊥) =
           elim n.branch [
-            | in-Family w' ↦ turned same w'.bounds-is w'.sequencer-is w'.code-is w'.marks-is w'.clocks-is w'.known-is w'.values-is w'.masks-is w'.gates-is w'.extents-is w'.outcome-is
+            | in-Family w' ↦ turned same w'.bounds-is w'.sequencer-is w'.code-is w'.marks-is w'.clocks-is w'.known-is w'.values-is w'.masks-is w'.gates-is
+                w'.extents-is w'.outcome-is
                 (is ∙ ap byte_of w'.in-Family.is) (omega arith)
-                (state_reached lent job _ 4 (is ∙ ap byte_of w'.in-Family.is) (omega arith) of_state_4 (w'.read_family-outcome.ensures.tested job.probes.masks) w'.read_family-outcome.ensures.state)
-            | in-Range w' ↦ turned same w'.bounds-is w'.sequencer-is w'.code-is w'.marks-is w'.clocks-is w'.known-is w'.values-is w'.masks-is w'.gates-is w'.extents-is w'.outcome-is
+                (state_reached lent job _ 4 (is ∙ ap byte_of w'.in-Family.is) (omega arith) of_state_4
+                (w'.read_family-outcome.ensures.tested job.probes.masks) w'.read_family-outcome.ensures.state)
+            | in-Range w' ↦ turned same w'.bounds-is w'.sequencer-is w'.code-is w'.marks-is w'.clocks-is w'.known-is w'.values-is w'.masks-is w'.gates-is
+                w'.extents-is w'.outcome-is
                 (is ∙ ap byte_of w'.in-Range.is) (omega arith)
                 (range_reached lent job _ (is ∙ ap byte_of w'.in-Range.is) w'.read_range-outcome.ensures)
-            | in-HostWrite w' ↦ turned same w'.bounds-is w'.sequencer-is w'.code-is w'.marks-is w'.clocks-is w'.known-is w'.values-is w'.masks-is w'.gates-is w'.extents-is w'.outcome-is
+            | in-HostWrite w' ↦ turned same w'.bounds-is w'.sequencer-is w'.code-is w'.marks-is w'.clocks-is w'.known-is w'.values-is w'.masks-is w'.gates-is
+                w'.extents-is w'.outcome-is
                 (is ∙ ap byte_of w'.in-HostWrite.is) (omega arith)
-                (state_reached lent job _ 2 (is ∙ ap byte_of w'.in-HostWrite.is) (omega arith) of_state_2 (w'.read_write-outcome.ensures.tested job.probes.masks) w'.read_write-outcome.ensures.state)
-            | in-Gate w' ↦ turned same w'.bounds-is w'.sequencer-is w'.code-is w'.marks-is w'.clocks-is w'.known-is w'.values-is w'.masks-is w'.gates-is w'.extents-is w'.outcome-is
+                (state_reached lent job _ 2 (is ∙ ap byte_of w'.in-HostWrite.is) (omega arith) of_state_2
+                (w'.read_write-outcome.ensures.tested job.probes.masks) w'.read_write-outcome.ensures.state)
+            | in-Gate w' ↦ turned same w'.bounds-is w'.sequencer-is w'.code-is w'.marks-is w'.clocks-is w'.known-is w'.values-is w'.masks-is w'.gates-is
+                w'.extents-is w'.outcome-is
                 (is ∙ ap byte_of w'.in-Gate.is) (omega arith)
                 (gate_reached lent job _ w'.event_in-event.ensures.value (is ∙ ap byte_of w'.in-Gate.is) _ w'.read_gate-outcome.ensures)
-            | in-Capture w' ↦ turned same w'.bounds-is w'.sequencer-is w'.code-is w'.marks-is w'.clocks-is w'.known-is w'.values-is w'.masks-is w'.gates-is w'.extents-is w'.outcome-is
+            | in-Capture w' ↦ turned same w'.bounds-is w'.sequencer-is w'.code-is w'.marks-is w'.clocks-is w'.known-is w'.values-is w'.masks-is w'.gates-is
+                w'.extents-is w'.outcome-is
                 (is ∙ ap byte_of w'.in-Capture.is) (omega arith)
-                (capture_reached lent job _ w'.event_in-event-in-Capture.ensures.value (is ∙ ap byte_of w'.in-Capture.is) (omega (arith, w'.event_in-event-in-Capture.ensures.upper_bound, size.gates)) (omega (arith, w'.event_in-event-in-Capture.ensures.upper_bound, size.extents)) _ _ w'.read_capture-outcome.ensures)
-            | in-Row w' ↦ turned same w'.bounds-is w'.sequencer-is w'.code-is w'.marks-is w'.clocks-is w'.known-is w'.values-is w'.masks-is w'.gates-is w'.extents-is w'.outcome-is
+                (capture_reached lent job _ w'.event_in-event-in-Capture.ensures.value (is ∙ ap byte_of w'.in-Capture.is)
+                (omega (arith, w'.event_in-event-in-Capture.ensures.upper_bound, size.gates))
+                (omega (arith, w'.event_in-event-in-Capture.ensures.upper_bound, size.extents)) _ _ w'.read_capture-outcome.ensures)
+            | in-Row w' ↦ turned same w'.bounds-is w'.sequencer-is w'.code-is w'.marks-is w'.clocks-is w'.known-is w'.values-is w'.masks-is w'.gates-is
+                w'.extents-is w'.outcome-is
                 (is ∙ ap byte_of w'.in-Row.is) (omega arith)
                 (row_reached lent job _ (is ∙ ap byte_of w'.in-Row.is) w'.read_row-outcome.ensures)
           ] in (
-            carried refl w.bounds-is w.sequencer-is w.code-is w.marks-is w.clocks-is w.known-is w.values-is w.masks-is w.gates-is w.extents-is w.outcome-is turn.0,
+            carried refl w.bounds-is w.sequencer-is w.code-is w.marks-is w.clocks-is w.known-is w.values-is w.masks-is w.gates-is w.extents-is w.outcome-is
+                turn.0,
             λ z. absurd (refused_some n.outcome (sym w.is_err.ensures.value ∙ w.if-is_err.true) (sym (ap refused_number w.outcome-is) ∙ z)),
           )
     ] in
