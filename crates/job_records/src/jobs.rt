@@ -52,10 +52,11 @@ fn read_records(bytes: &[u8]) -> JobRead
     let mut clocks = [0u64; 1024];
     let mut known = [0u32; 1024];
     let mut values = [0u32; 1024];
-    let none = no_probes();
-    let mut masks = none.masks;
-    let mut gates = none.gates;
-    let mut extents = none.extents;
+    let Probes {
+        mut masks,
+        mut gates,
+        mut extents,
+    } = no_probes();
     let outcome = loop {
         let rest = &bytes[at..];
         let Ok(kind) = RecordKind::try_from(byte_at(rest, 0)) else {

@@ -123,10 +123,10 @@ pub loop-kind-init : goal.loop-kind-init
 unfolding blank_state empty_job
 loop-kind-init c =
     let bytes = c.args.bytes.now in
-    let probes = c.no_probes-none.result in
+    let probes = c.no_probes.result in
     let e : job_of c.no_counts-counts.result (replicate 128 0) (state_from c.fresh_sequencer-sequencer.result (replicate 512 0) (replicate 512 0))
     (log_of (replicate 1024 0) (replicate 1024 0) (replicate 1024 0)) (probes_of probes.masks probes.gates probes.extents)
-    ≡ empty_job = simp (c.no_counts-counts.ensures, c.fresh_sequencer-sequencer.ensures, c.no_probes-none.ensures) in (
+    ≡ empty_job = simp (c.no_counts-counts.ensures, c.fresh_sequencer-sequencer.ensures, c.no_probes.ensures) in (
       search rules,
       subst Going (sym e) going_empty,
       subst (λ (j : Job). CountsWithin 0 j.probes) (sym e) (counts_empty 0),
