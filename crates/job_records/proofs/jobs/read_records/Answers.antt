@@ -17,7 +17,7 @@ use Rattle.job_records.specs.Inside.{RecordsRead}
 use Rattle.job_records.specs.Kinds.{byte_of}
 use Rattle.job_records.specs.Number.{refusal_number, refused_number}
 use Rattle.job_records.specs.Records.{kind_of}
-use Rattle.job_records.specs.Job.{counted, empty_job, after_record}
+use Rattle.job_records.specs.Job.{no_counts, counted, empty_job, after_record}
 use Rattle.job_records.specs.Reader.{max_bytes, CountsWithin, read_at, read_in}
 use Rattle.job_records.specs.declared.contents.Counts.{Counts}
 use Rattle.job_records.specs.declared.contents.Job.{Job}
@@ -124,9 +124,10 @@ unfolding blank_state empty_job
 loop-kind-init c =
     let bytes = c.args.bytes.now in
     let probes = c.no_probes.result in
-    let e : job_of c.no_counts-counts.result (replicate 128 0) (state_from c.fresh_sequencer-sequencer.result (replicate 512 0) (replicate 512 0))
+    let none : c.default-counts.result ≡ no_counts = search rules in
+    let e : job_of c.default-counts.result (replicate 128 0) (state_from c.fresh_sequencer-sequencer.result (replicate 512 0) (replicate 512 0))
     (log_of (replicate 1024 0) (replicate 1024 0) (replicate 1024 0)) (probes_of probes.masks probes.gates probes.extents)
-    ≡ empty_job = simp (c.no_counts-counts.ensures, c.fresh_sequencer-sequencer.ensures, c.no_probes.ensures) in (
+    ≡ empty_job = simp (none, c.fresh_sequencer-sequencer.ensures, c.no_probes.ensures) in (
       search rules,
       subst Going (sym e) going_empty,
       subst (λ (j : Job). CountsWithin 0 j.probes) (sym e) (counts_empty 0),
