@@ -5,7 +5,7 @@ ghost use Rattle.job_records.specs.Inside.{RecordsRead};
 
 use crate::by_kind::{read_end, read_family, read_range, read_row, read_write};
 use crate::by_probe::{event_in, read_capture, read_gate};
-use crate::contents::{Job, counted, empty_job, no_counts};
+use crate::contents::{Counts, Job, counted, empty_job};
 use crate::kinds::{RecordKind, kind_of};
 use crate::refusal::Refusal;
 use machine_state::state_from;
@@ -44,7 +44,7 @@ fn read_records(bytes: &[u8]) -> JobRead
     ensures { RecordsRead bytes.now (told result) }
 {
     let mut at = 0;
-    let mut counts = no_counts();
+    let mut counts = Counts::default();
     let mut bounds = [0u32; 128];
     let mut sequencer = host_fresh::fresh_sequencer(0);
     let mut code = [0u8; families::MAX_CODE];
@@ -52,10 +52,11 @@ fn read_records(bytes: &[u8]) -> JobRead
     let mut clocks = [0u64; 1024];
     let mut known = [0u32; 1024];
     let mut values = [0u32; 1024];
-    let none = no_probes();
-    let mut masks = none.masks;
-    let mut gates = none.gates;
-    let mut extents = none.extents;
+    let Probes {
+        mut masks,
+        mut gates,
+        mut extents,
+    } = no_probes();
     let outcome = loop {
         let rest = &bytes[at..];
         let Ok(kind) = RecordKind::try_from(byte_at(rest, 0)) else {

@@ -17,7 +17,7 @@ use Rattle.job_records.specs.Inside.{RecordsRead}
 use Rattle.job_records.specs.Kinds.{byte_of}
 use Rattle.job_records.specs.Number.{refusal_number, refused_number}
 use Rattle.job_records.specs.Records.{kind_of}
-use Rattle.job_records.specs.Job.{counted, empty_job, after_record}
+use Rattle.job_records.specs.Job.{no_counts, counted, empty_job, after_record}
 use Rattle.job_records.specs.Reader.{max_bytes, CountsWithin, read_at, read_in}
 use Rattle.job_records.specs.declared.contents.Counts.{Counts}
 use Rattle.job_records.specs.declared.contents.Job.{Job}
@@ -92,8 +92,8 @@ stops input at job number inv short reached ends =
     let kept = reached.kept ends in
     let fuel = inv.3 in
     let within : CountsWithin max_bytes job.probes = λ event. omega (arith, inv.2 event, inv.0, short) in
-    let passed : number ≡ 0 → Clear rest job.counts job.probes.masks job.state = λ z. clear rest job.counts job.probes.masks job.state (sym reached.tested
-    ∙ z) in
+    let passed : number ≡ 0 → Clear rest job.counts job.probes.masks job.state = λ z. clear rest job.counts job.probes.masks job.state
+    (sym reached.tested ∙ z) in
     subst (λ (j : Job). RecordsRead input (read_at number at j)) (sym kept) (record {
       answered = read_stop input at job (from_start input) number fuel.0 inv.0 fuel.1 reached.tested ends fuel.2;
       sound = going_sound job inv.1 within;
@@ -123,10 +123,11 @@ pub loop-kind-init : goal.loop-kind-init
 unfolding blank_state empty_job
 loop-kind-init c =
     let bytes = c.args.bytes.now in
-    let probes = c.no_probes-none.result in
-    let e : job_of c.no_counts-counts.result (replicate 128 0) (state_from c.fresh_sequencer-sequencer.result (replicate 512 0) (replicate 512 0))
+    let probes = c.no_probes.result in
+    let none : c.default-counts.result ≡ no_counts = search rules in
+    let e : job_of c.default-counts.result (replicate 128 0) (state_from c.fresh_sequencer-sequencer.result (replicate 512 0) (replicate 512 0))
     (log_of (replicate 1024 0) (replicate 1024 0) (replicate 1024 0)) (probes_of probes.masks probes.gates probes.extents)
-    ≡ empty_job = simp (c.no_counts-counts.ensures, c.fresh_sequencer-sequencer.ensures, c.no_probes-none.ensures) in (
+    ≡ empty_job = simp (none, c.fresh_sequencer-sequencer.ensures, c.no_probes.ensures) in (
       search rules,
       subst Going (sym e) going_empty,
       subst (λ (j : Job). CountsWithin 0 j.probes) (sym e) (counts_empty 0),
@@ -170,12 +171,9 @@ loop-kind-preserved c =
       | in-Capture w ↦ turned same w.bounds-is w.sequencer-is w.code-is w.marks-is w.clocks-is w.known-is w.values-is w.masks-is w.gates-is w.extents-is
           w.outcome-is
           (is ∙ ap byte_of w.in-Capture.is) (omega arith)
-          (capture_reached lent job _ w.event_in-event-in-Capture.ensures.value (is ∙ ap byte_of w.in-Capture.is) (omega
-          (arith, w.event_in-event-in-Capture.ensures.upper_bound, size.gates)) (omega (
-            arith,
-            w.event_in-event-in-Capture.ensures.upper_bound,
-            size.extents,
-          )) _ _ w.read_capture-outcome.ensures)
+          (capture_reached lent job _ w.event_in-event-in-Capture.ensures.value (is ∙ ap byte_of w.in-Capture.is)
+          (omega (arith, w.event_in-event-in-Capture.ensures.upper_bound, size.gates))
+          (omega (arith, w.event_in-event-in-Capture.ensures.upper_bound, size.extents)) _ _ w.read_capture-outcome.ensures)
       | in-Row w ↦ turned same w.bounds-is w.sequencer-is w.code-is w.marks-is w.clocks-is w.known-is w.values-is w.masks-is w.gates-is w.extents-is
           w.outcome-is
           (is ∙ ap byte_of w.in-Row.is) (omega arith)
@@ -239,12 +237,9 @@ returns c =
             | in-Capture w' ↦ turned same w'.bounds-is w'.sequencer-is w'.code-is w'.marks-is w'.clocks-is w'.known-is w'.values-is w'.masks-is w'.gates-is
                 w'.extents-is w'.outcome-is
                 (is ∙ ap byte_of w'.in-Capture.is) (omega arith)
-                (capture_reached lent job _ w'.event_in-event-in-Capture.ensures.value (is ∙ ap byte_of w'.in-Capture.is) (omega
-                (arith, w'.event_in-event-in-Capture.ensures.upper_bound, size.gates)) (omega (
-                  arith,
-                  w'.event_in-event-in-Capture.ensures.upper_bound,
-                  size.extents,
-                )) _ _ w'.read_capture-outcome.ensures)
+                (capture_reached lent job _ w'.event_in-event-in-Capture.ensures.value (is ∙ ap byte_of w'.in-Capture.is)
+                (omega (arith, w'.event_in-event-in-Capture.ensures.upper_bound, size.gates))
+                (omega (arith, w'.event_in-event-in-Capture.ensures.upper_bound, size.extents)) _ _ w'.read_capture-outcome.ensures)
             | in-Row w' ↦ turned same w'.bounds-is w'.sequencer-is w'.code-is w'.marks-is w'.clocks-is w'.known-is w'.values-is w'.masks-is w'.gates-is
                 w'.extents-is w'.outcome-is
                 (is ∙ ap byte_of w'.in-Row.is) (omega arith)
