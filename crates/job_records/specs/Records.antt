@@ -1,5 +1,5 @@
 -- The kinds of record and their order (01, "A job, and one report whole"; 02, ticket 1).
-use Rattle.std.specs.Prelude.{ℕ, Bool, cond, not, List, [], ◌∷◌, ltb, eqb}
+use Rattle.std.specs.Prelude.{ℕ, Bool, cond, not, List, [], ◌∷◌, ltb, eqb, Option, None, Some}
 use Rattle.event_log.specs.Validity.{max_rows}
 use Rattle.script.specs.Input.{max_ranges}
 use Rattle.job_records.specs.declared.contents.Counts.{Counts}
@@ -63,7 +63,7 @@ look_up byte (entry ∷ table) = cond (eqb byte entry.byte) entry.kind (look_up 
 unfoldable pub kind_of : Counts → ℕ → Kind
 kind_of counts byte = look_up byte (kinds counts)
 
--- kinds come in just that order: the first record is of the first rank, and no record's rank is below the last one's; before the
--- first record the last rank is 0
-unfoldable pub is_out_of_order : ℕ → Kind → Bool
-is_out_of_order last kind = cond (eqb last 0) (not (eqb kind.rank 1)) (ltb kind.rank last)
+-- kinds come in just that order: the first record is of the first rank, and no record's rank is below the last one's
+unfoldable pub is_out_of_order : Option ℕ → Kind → Bool
+is_out_of_order None kind = not (eqb kind.rank 1)
+is_out_of_order (Some last) kind = ltb kind.rank last

@@ -10,60 +10,14 @@ ghost use Rattle.job_records.specs.Refusals.{refusal_of};
 ghost use Rattle.words.specs.Numbers.{byte_at};
 ghost use Rattle.job_records.specs.Inside.{write_tests, RangeRead, RowStored, StateStored};
 
-use crate::contents::Counts;
 use crate::kinds::RecordKind;
-use crate::listing::test_shape;
+use crate::listing::Record;
 use crate::refusal::Refusal;
 use isa::MmioAddress;
 use machine_state::Sequencer;
 use probe_captures::{Masks, after_row, row_known, row_values};
 use refusals::Inaccessible;
 use words::{byte_at, long_word, word_at};
-
-// A family, from which a fresh state is made.
-pub(crate) fn read_family(
-    rest: &[u8],
-    counts: Counts,
-    sequencer: &mut Sequencer,
-    code: &mut [u8; families::MAX_CODE],
-    marks: &mut [u8; families::MAX_CODE],
-) -> Result<(), Refusal>
-    requires { byte_at rest.now 0 ≡ family }
-    ensures { StateStored rest.now counts (state_from sequencer.old code.old marks.old)
-        (state_from sequencer.new code.new marks.new) (refused_number result) }
-{
-    test_shape(rest, RecordKind::Family, counts)?;
-    let family = byte_at(rest, 1);
-    if !families::known_family(family) {
-        return Err(Refusal::Family);
-    }
-    *sequencer = host_fresh::fresh_sequencer(family);
-    *code = [0u8; families::MAX_CODE];
-    *marks = [0u8; families::MAX_CODE];
-    Ok(())
-}
-
-// A range is the next two bounds.
-#[tactic(auto, unfolding(crate::specs::Records::kind_of))]
-pub(crate) fn read_range(
-    rest: &[u8],
-    counts: Counts,
-    bounds: &mut [u32; 128],
-) -> Result<(), Refusal>
-    requires { byte_at rest.now 0 ≡ allowed_range }
-    ensures { RangeRead rest.now counts bounds.old bounds.new (refused_number result) }
-{
-    test_shape(rest, RecordKind::Range, counts)?;
-    let first = word_at(rest, 1);
-    let last = word_at(rest, 5);
-    if last < first {
-        return Err(Refusal::Range);
-    }
-    let n = counts.ranges;
-    bounds[2 * n] = first;
-    bounds[2 * n + 1] = last;
-    Ok(())
-}
 
 // What the listing says of a host write. No job has one for a family that there is not.
 fn write_outcome(outcome: Result<(), Inaccessible>) -> Result<(), Refusal>
@@ -76,71 +30,106 @@ fn write_outcome(outcome: Result<(), Inaccessible>) -> Result<(), Refusal>
     }
 }
 
-// A host write.
-pub(crate) fn read_write(
-    rest: &[u8],
-    counts: Counts,
-    sequencer: &mut Sequencer,
-    code: &mut [u8; families::MAX_CODE],
-    marks: &mut [u8; families::MAX_CODE],
-) -> Result<(), Refusal>
-    requires { byte_at rest.now 0 ≡ host_write }
-    ensures { StateStored rest.now counts (state_from sequencer.old code.old marks.old)
-        (state_from sequencer.new code.new marks.new) (refused_number result) }
-{
-    test_shape(rest, RecordKind::HostWrite, counts)?;
-    let address = MmioAddress(word_at(rest, 1));
-    let written = host_access::write(*sequencer, address, word_at(rest, 5), code, marks);
-    *sequencer = written.sequencer;
-    write_outcome(written.outcome)
-}
+impl Record<'_> {
+    // A family, from which a fresh state is made.
+    pub(crate) fn read_family(
+        self,
+        sequencer: &mut Sequencer,
+        code: &mut [u8; families::MAX_CODE],
+        marks: &mut [u8; families::MAX_CODE],
+    ) -> Result<(), Refusal>
+        requires { byte_at self.rest.now 0 ≡ family }
+        ensures { StateStored self.entry.rest.now self.entry.counts (state_from sequencer.old code.old marks.old)
+            (state_from sequencer.new code.new marks.new) (refused_number result) }
+    {
+        self.test_shape(RecordKind::Family)?;
+        let family = byte_at(self.rest, 1);
+        if !families::known_family(family) {
+            return Err(Refusal::Family);
+        }
+        *sequencer = host_fresh::fresh_sequencer(family);
+        *code = [0u8; families::MAX_CODE];
+        *marks = [0u8; families::MAX_CODE];
+        Ok(())
+    }
 
-// A row is the next entry of each column. What was captured for it is used up.
-#[tactic(auto, unfolding(crate::specs::Records::kind_of))]
-pub(crate) fn read_row(
-    rest: &[u8],
-    counts: Counts,
-    masks: &mut Masks,
-    clocks: &mut [u64; 1024],
-    known: &mut [u32; 1024],
-    values: &mut [u32; 1024],
-) -> Result<(), Refusal>
-    requires { byte_at rest.now 0 ≡ log_row }
-    ensures { RowStored rest.now counts masks.old masks.new (log_of clocks.old known.old values.old)
-        (log_of clocks.new known.new values.new) (refused_number result) }
-{
-    test_shape(rest, RecordKind::Row, counts)?;
-    let length = long_word(word_at(rest, 1), word_at(rest, 5));
-    if !event_log::clocks_in_range(length) {
-        return Err(Refusal::Clocks);
+    // A range is the next two bounds.
+    #[tactic(auto, unfolding(crate::specs::Records::kind_of))]
+    pub(crate) fn read_range(self, bounds: &mut [u32; 128]) -> Result<(), Refusal>
+        requires { byte_at self.rest.now 0 ≡ allowed_range }
+        ensures { RangeRead self.entry.rest.now self.entry.counts bounds.old bounds.new (refused_number result) }
+    {
+        self.test_shape(RecordKind::Range)?;
+        let first = word_at(self.rest, 1);
+        let last = word_at(self.rest, 5);
+        if last < first {
+            return Err(Refusal::Range);
+        }
+        let n = self.counts.ranges;
+        bounds[2 * n] = first;
+        bounds[2 * n + 1] = last;
+        Ok(())
     }
-    let n = counts.rows;
-    clocks[n] = length;
-    known[n] = row_known(*masks, word_at(rest, 9));
-    values[n] = row_values(*masks, word_at(rest, 13));
-    *masks = after_row(*masks);
-    Ok(())
-}
 
-// The end, where no capture is left and a slot must execute.
-pub(crate) fn read_end(
-    rest: &[u8],
-    counts: Counts,
-    masks: Masks,
-    sequencer: Sequencer,
-) -> Result<(), Refusal>
-    requires { byte_at rest.now 0 ≡ end }
-    ensures { (code marks : List ℕ) → refused_number result ≡ refusal_of rest.now counts masks (state_from sequencer code marks) }
-{
-    test_shape(rest, RecordKind::End, counts)?;
-    if masks.captured != 0 {
-        return Err(Refusal::Probe);
+    // A host write.
+    pub(crate) fn read_write(
+        self,
+        sequencer: &mut Sequencer,
+        code: &mut [u8; families::MAX_CODE],
+        marks: &mut [u8; families::MAX_CODE],
+    ) -> Result<(), Refusal>
+        requires { byte_at self.rest.now 0 ≡ host_write }
+        ensures { StateStored self.entry.rest.now self.entry.counts (state_from sequencer.old code.old marks.old)
+            (state_from sequencer.new code.new marks.new) (refused_number result) }
+    {
+        self.test_shape(RecordKind::HostWrite)?;
+        let address = MmioAddress(word_at(self.rest, 1));
+        let written = host_access::write(*sequencer, address, word_at(self.rest, 5), code, marks);
+        *sequencer = written.sequencer;
+        write_outcome(written.outcome)
     }
-    if 1 < rest.len() {
-        return Err(Refusal::BytesAfter);
+
+    // A row is the next entry of each column. What was captured for it is used up.
+    #[tactic(auto, unfolding(crate::specs::Records::kind_of))]
+    pub(crate) fn read_row(
+        self,
+        masks: &mut Masks,
+        clocks: &mut [u64; 1024],
+        known: &mut [u32; 1024],
+        values: &mut [u32; 1024],
+    ) -> Result<(), Refusal>
+        requires { byte_at self.rest.now 0 ≡ log_row }
+        ensures { RowStored self.entry.rest.now self.entry.counts masks.old masks.new (log_of clocks.old known.old values.old)
+            (log_of clocks.new known.new values.new) (refused_number result) }
+    {
+        self.test_shape(RecordKind::Row)?;
+        let length = long_word(word_at(self.rest, 1), word_at(self.rest, 5));
+        if !event_log::clocks_in_range(length) {
+            return Err(Refusal::Clocks);
+        }
+        let n = self.counts.rows;
+        clocks[n] = length;
+        known[n] = row_known(*masks, word_at(self.rest, 9));
+        values[n] = row_values(*masks, word_at(self.rest, 13));
+        *masks = after_row(*masks);
+        Ok(())
     }
-    if !machine_execution::some_executes(sequencer.family, sequencer.a.mode, sequencer.b.mode) {
-        return Err(Refusal::Idle);
+
+    // The end, where no capture is left and a slot must execute.
+    pub(crate) fn read_end(self, masks: Masks, sequencer: Sequencer) -> Result<(), Refusal>
+        requires { byte_at self.rest.now 0 ≡ end }
+        ensures { (code marks : List ℕ) → refused_number result ≡ refusal_of self.entry.rest.now self.entry.counts masks (state_from sequencer code marks) }
+    {
+        self.test_shape(RecordKind::End)?;
+        if masks.captured != 0 {
+            return Err(Refusal::Probe);
+        }
+        if 1 < self.rest.len() {
+            return Err(Refusal::BytesAfter);
+        }
+        if !machine_execution::some_executes(sequencer.family, sequencer.a.mode, sequencer.b.mode) {
+            return Err(Refusal::Idle);
+        }
+        Ok(())
     }
-    Ok(())
 }

@@ -8,10 +8,10 @@ use crate::kinds::{RecordKind, kind_of};
 use machine_state::State;
 use probe_captures::{Probes, no_probes};
 
-// How many records of each kind were read, and the rank of the last one, 0 before the first.
+// How many records of each kind were read, and the rank of the last one, if there was one.
 #[derive(Clone, Copy, Default)]
 pub struct Counts {
-    pub rank: u8,
+    pub rank: Option<u8>,
     pub families: usize,
     pub ranges: usize,
     pub writes: usize,
@@ -41,7 +41,7 @@ pub(crate) fn counted(kind: RecordKind, counts: Counts) -> Counts
     ensures { result ≡ Job·counted (byte_of kind) counts }
 {
     let counts = Counts {
-        rank: kind_of(kind, counts).rank,
+        rank: Some(kind_of(kind, counts).rank),
         ..counts
     };
     match kind {

@@ -3,10 +3,9 @@ ghost use Rattle.std.specs.Prelude.{◌≡◌, ◌≤◌, length};
 ghost use Rattle.job_records.specs.Reader.{max_bytes, told, JobReads};
 ghost use Rattle.job_records.specs.Inside.{RecordsRead};
 
-use crate::by_kind::{read_end, read_family, read_range, read_row, read_write};
-use crate::by_probe::{event_in, read_capture, read_gate};
 use crate::contents::{Counts, Job, counted, empty_job};
 use crate::kinds::{RecordKind, kind_of};
+use crate::listing::Record;
 use crate::refusal::Refusal;
 use machine_state::state_from;
 use probe_captures::{Probes, no_probes};
@@ -58,37 +57,27 @@ fn read_records(bytes: &[u8]) -> JobRead
         mut extents,
     } = no_probes();
     let outcome = loop {
-        let rest = &bytes[at..];
-        let Ok(kind) = RecordKind::try_from(byte_at(rest, 0)) else {
+        let record = Record {
+            rest: &bytes[at..],
+            counts,
+        };
+        let Ok(kind) = RecordKind::try_from(byte_at(record.rest, 0)) else {
             break Err(Refusal::Unknown);
         };
         let outcome = match kind {
-            RecordKind::Family => {
-                read_family(rest, counts, &mut sequencer, &mut code, &mut marks)
-            }
-            RecordKind::Range => read_range(rest, counts, &mut bounds),
-            RecordKind::HostWrite => {
-                read_write(rest, counts, &mut sequencer, &mut code, &mut marks)
-            }
+            RecordKind::Family => record.read_family(&mut sequencer, &mut code, &mut marks),
+            RecordKind::Range => record.read_range(&mut bounds),
+            RecordKind::HostWrite => record.read_write(&mut sequencer, &mut code, &mut marks),
             RecordKind::Gate => {
-                let event = event_in(rest);
-                read_gate(rest, counts, &mut masks, &mut gates[event])
+                let event = record.event();
+                record.read_gate(&mut masks, &mut gates[event])
             }
             RecordKind::Capture => {
-                let event = event_in(rest);
-                read_capture(rest, counts, &mut masks, gates[event], &mut extents[event])
+                let event = record.event();
+                record.read_capture(&mut masks, gates[event], &mut extents[event])
             }
-            RecordKind::Row => {
-                read_row(
-                    rest,
-                    counts,
-                    &mut masks,
-                    &mut clocks,
-                    &mut known,
-                    &mut values,
-                )
-            }
-            RecordKind::End => break read_end(rest, counts, masks, sequencer),
+            RecordKind::Row => record.read_row(&mut masks, &mut clocks, &mut known, &mut values),
+            RecordKind::End => break record.read_end(masks, sequencer),
         };
         if outcome.is_err() {
             break outcome;

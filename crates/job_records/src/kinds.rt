@@ -93,12 +93,11 @@ pub(crate) fn kind_of(kind: RecordKind, counts: Counts) -> Kind
 
 // Ranks never fall from one record to the next, and the first record is of the first rank.
 #[tactic(auto, unfolding(crate::specs::Records::is_out_of_order))]
-pub(crate) fn is_out_of_order(last: u8, kind: Kind) -> bool
+pub(crate) fn is_out_of_order(last: Option<u8>, kind: Kind) -> bool
     ensures { result ≡ is_out_of_order last kind }
 {
-    if last == 0 {
-        kind.rank != 1
-    } else {
-        kind.rank < last
+    match last {
+        None => kind.rank != 1,
+        Some(last) => kind.rank < last,
     }
 }

@@ -167,13 +167,13 @@ loop-kind-preserved c =
       | in-Gate w ↦ turned same w.bounds-is w.sequencer-is w.code-is w.marks-is w.clocks-is w.known-is w.values-is w.masks-is w.gates-is w.extents-is
           w.outcome-is
           (is ∙ ap byte_of w.in-Gate.is) (omega arith)
-          (gate_reached lent job _ w.event_in-event.ensures.value (is ∙ ap byte_of w.in-Gate.is) _ w.read_gate-outcome.ensures)
+          (gate_reached lent job _ w.event-event.ensures.value (is ∙ ap byte_of w.in-Gate.is) _ w.read_gate-outcome.ensures)
       | in-Capture w ↦ turned same w.bounds-is w.sequencer-is w.code-is w.marks-is w.clocks-is w.known-is w.values-is w.masks-is w.gates-is w.extents-is
           w.outcome-is
           (is ∙ ap byte_of w.in-Capture.is) (omega arith)
-          (capture_reached lent job _ w.event_in-event-in-Capture.ensures.value (is ∙ ap byte_of w.in-Capture.is)
-          (omega (arith, w.event_in-event-in-Capture.ensures.upper_bound, size.gates))
-          (omega (arith, w.event_in-event-in-Capture.ensures.upper_bound, size.extents)) _ _ w.read_capture-outcome.ensures)
+          (capture_reached lent job _ w.event-event-in-Capture.ensures.value (is ∙ ap byte_of w.in-Capture.is)
+          (omega (arith, w.event-event-in-Capture.ensures.upper_bound, size.gates))
+          (omega (arith, w.event-event-in-Capture.ensures.upper_bound, size.extents)) _ _ w.read_capture-outcome.ensures)
       | in-Row w ↦ turned same w.bounds-is w.sequencer-is w.code-is w.marks-is w.clocks-is w.known-is w.values-is w.masks-is w.gates-is w.extents-is
           w.outcome-is
           (is ∙ ap byte_of w.in-Row.is) (omega arith)
@@ -233,13 +233,13 @@ returns c =
             | in-Gate w' ↦ turned same w'.bounds-is w'.sequencer-is w'.code-is w'.marks-is w'.clocks-is w'.known-is w'.values-is w'.masks-is w'.gates-is
                 w'.extents-is w'.outcome-is
                 (is ∙ ap byte_of w'.in-Gate.is) (omega arith)
-                (gate_reached lent job _ w'.event_in-event.ensures.value (is ∙ ap byte_of w'.in-Gate.is) _ w'.read_gate-outcome.ensures)
+                (gate_reached lent job _ w'.event-event.ensures.value (is ∙ ap byte_of w'.in-Gate.is) _ w'.read_gate-outcome.ensures)
             | in-Capture w' ↦ turned same w'.bounds-is w'.sequencer-is w'.code-is w'.marks-is w'.clocks-is w'.known-is w'.values-is w'.masks-is w'.gates-is
                 w'.extents-is w'.outcome-is
                 (is ∙ ap byte_of w'.in-Capture.is) (omega arith)
-                (capture_reached lent job _ w'.event_in-event-in-Capture.ensures.value (is ∙ ap byte_of w'.in-Capture.is)
-                (omega (arith, w'.event_in-event-in-Capture.ensures.upper_bound, size.gates))
-                (omega (arith, w'.event_in-event-in-Capture.ensures.upper_bound, size.extents)) _ _ w'.read_capture-outcome.ensures)
+                (capture_reached lent job _ w'.event-event-in-Capture.ensures.value (is ∙ ap byte_of w'.in-Capture.is)
+                (omega (arith, w'.event-event-in-Capture.ensures.upper_bound, size.gates))
+                (omega (arith, w'.event-event-in-Capture.ensures.upper_bound, size.extents)) _ _ w'.read_capture-outcome.ensures)
             | in-Row w' ↦ turned same w'.bounds-is w'.sequencer-is w'.code-is w'.marks-is w'.clocks-is w'.known-is w'.values-is w'.masks-is w'.gates-is
                 w'.extents-is w'.outcome-is
                 (is ∙ ap byte_of w'.in-Row.is) (omega arith)

@@ -3,7 +3,7 @@ use Rattle.std.proofs.lemmas.Result.{err_from_is_err_and}
 use Rattle.machine_state.specs.Sequencer.{state_from}
 use Rattle.machine_state.specs.declared.state.State.{State}
 use Rattle.job_records.proofs.KindTests.{shape_told, unstored, write_read}
-use Rattle.job_records.proofs.by_kind.read_write.Goals as goal
+use Rattle.job_records.proofs.listing.Record.read_write.Goals as goal
 
 pub returns-in_err-test_shape : goal.returns-in_err-test_shape
 returns-in_err-test_shape c =
@@ -11,11 +11,11 @@ returns-in_err-test_shape c =
     let p = err_from_is_err_and c.from_residual.result c.from_residual.ensures.1 in
     let why = c.in_err-test_shape.field-0.0 in
     rw (p.1, p.2) (record {
-      tested = λ m. shape_told c.args.rest.now c.args.counts 2 c.requires why c.in_err-test_shape.ensures.number m state;
+      tested = λ m. shape_told c.args.self.rest.now c.args.self.counts 2 c.requires why c.in_err-test_shape.ensures.number m state;
       state = unstored why _ state;
     })
 
 pub returns : goal.returns
 returns c =
-    write_read c.args.rest.now _ c.requires c.word_at.ensures c.word_at-2.ensures c.write-written.ensures c.write_outcome.ensures c.args.counts
+    write_read c.args.self.rest.now _ c.requires c.word_at.ensures c.word_at-2.ensures c.write-written.ensures c.write_outcome.ensures c.args.self.counts
     (sym c.in_ok-test_shape.ensures.number)
