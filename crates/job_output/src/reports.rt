@@ -46,7 +46,7 @@ pub fn report(job: &[u8], out: &mut [u8; MAX_REPORT]) -> usize
         put_verdict(&mut report, sequencer.family, verdict);
         return report.at;
     };
-    // two entries a write, and a script makes at most 170
+    // two entries a write, and a script makes at most 170; an array, since there is no heap
     let mut entries = [0u32; run_replay::MAX_ENTRIES];
     let answer = run_code(
         sequencer,

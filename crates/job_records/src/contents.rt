@@ -18,7 +18,8 @@ pub struct Counts {
     pub rows: usize,
 }
 
-// What a job says. Only the first entries of its arrays are read: two for each range, one for each row.
+// What a job says. Only the first entries of its arrays are read: two for each range, one for each row. They are arrays with their counts beside them, since
+// there is no heap, and columns and bounds as they are lent to auditor and replay.
 #[derive(Clone, Copy)]
 pub struct Job {
     pub counts: Counts,
