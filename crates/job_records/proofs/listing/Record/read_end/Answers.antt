@@ -10,7 +10,8 @@ returns-in_err-test_shape c =
     let p = err_from_is_err_and c.from_residual.result c.from_residual.ensures.1 in
     let why = c.in_err-test_shape.field-0.0 in
     λ code marks. rw (p.1, p.2)
-    (shape_told c.args.self.rest.now c.args.self.counts 0 c.requires why c.in_err-test_shape.ensures.number c.args.masks (state_from c.args.sequencer code marks))
+    (shape_told c.args.self.rest.now c.args.self.counts 0 c.requires why c.in_err-test_shape.ensures.number c.args.masks
+    (state_from c.args.sequencer code marks))
 
 pub returns-then-masks-ne0 : goal.returns-then-masks-ne0
 returns-then-masks-ne0 c =
