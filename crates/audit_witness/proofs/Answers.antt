@@ -1,18 +1,19 @@
 -- What `witness` answers, case by case. Assumes nothing.
 use Rattle.std.specs.Prelude.{Ok, Err}
-use Prim.Native.Nat.{ℕ, ◌+◌, ◌<◌}
+use Prim.Native.Nat.{ℕ, ◌+◌, ◌≤◌}
 use mathlib.Core.Path.{◌≡◌, refl, ap, subst}
 use mathlib.Core.Logic.{⊎_elim}
-use mathlib.Core.Bool.{true, false, and-false}
+use mathlib.Core.Bool.{true, false}
 use mathlib.Core.List.{List}
 use native.Mathlib.Omega.{arith}
-use lib.Dec.{leb, eqb}
-use lib.ListN.{length}
-use borrow.Author.Tests.{le-leb, lt-leb, eqb-true}
+use lib.Dec.{eqb}
+use lib.ListN.{length-map}
+use borrow.Author.Tests.{eqb-true}
 use Rattle.refusals.specs.declared.refusals.Fault.{Fault}
 use Rattle.refusals.specs.declared.refusals.Unshowable.{Unshowable}
 use Rattle.event_log.specs.Log.{Log}
-use Rattle.event_log.proofs.Columns.{Room, rows_first}
+use Rattle.event_log.specs.declared.row.Row.{Row}
+use Rattle.event_log.proofs.Columns.{rows_first}
 use Rattle.script.specs.Script.{Script}
 use Rattle.script.specs.Input.{input_fits}
 use Rattle.audit_verdict.specs.Auditor.{verdict_number, audit_of}
@@ -25,26 +26,6 @@ use Rattle.audit_script.specs.Promises.{Audits}
 use Rattle.audit_witness.specs.Inside.{Follows}
 use Rattle.audit_witness.specs.Witnesses.{lent_enough, way, rows, witness_of, witness_refusal, Witnesses}
 use Rattle.audit_witness.specs.declared.rows.Timeline.{Timeline}
-
--- ---- room in the columns
-
-has_room : (lent : Log) → Room max_shown lent → lent_enough lent ≡ true
-has_room lent r =
-    rw (
-      le-leb max_shown (length lent.clocks) r.clocks,
-      le-leb max_shown (length lent.known) r.known,
-      le-leb max_shown (length lent.values) r.values,
-    ) refl
-
-pub few_clocks : (lent : Log) → length lent.clocks < max_shown → lent_enough lent ≡ false
-few_clocks lent h = rw (lt-leb max_shown (length lent.clocks) h) refl
-
-pub few_known : (lent : Log) → length lent.known < max_shown → lent_enough lent ≡ false
-few_known lent h = rw (lt-leb max_shown (length lent.known) h) (and-false (leb max_shown (length lent.clocks)))
-
-pub few_values : (lent : Log) → length lent.values < max_shown → lent_enough lent ≡ false
-few_values lent h =
-    rw (lt-leb max_shown (length lent.values) h, and-false (leb max_shown (length lent.known))) (and-false (leb max_shown (length lent.clocks)))
 
 module _ (x : Script) (ranges : List ℕ) where
   -- ---- the auditor's 9
@@ -86,15 +67,19 @@ module _ (x : Script) (ranges : List ℕ) where
     unfolding witness_of witness_refusal
     refuses_room i r = record { answered = rw (i, r) refl; numbered = rw (i, r) refl; columns = refl; shows = tt; worked = worked_logs }
 
-    module _ {v : Verdict} {new : Log} {made : Timeline} (i : input_fits x ranges ≡ true) (long : Room max_shown lent)
+    module _ {v : Verdict} {new : Log} {made : Timeline} (i : input_fits x ranges ≡ true) (r : lent_enough lent ≡ true)
         (a : Audits x ranges v) (f : Follows (way x ranges) lent new made) where
       shown : OwnLogShows x ranges (audit_of x ranges)
       shown = subst (Witnessed x ranges) a.answered a.witnessed i
 
+      -- no more rows than a column has room for
+      pub rows_few : made.before + 1 ≤ max_shown
+      rows_few = let all = rows x ranges lent in omega (arith, f.counted, shown.few, length-map all (λ (row : Row). row.clocks))
+
       pub answers : Witnesses x ranges lent new
           (Ok (record { verdict = v; rows = made.before + 1; steps = made.steps; writes = made.writes }))
       unfolding witness_of witness_refusal
-      answers = let r = has_room lent long in record {
+      answers = record {
         answered = rw (a.answered, f.counted, f.stepped, f.wrote, i, r) refl;
         numbered = rw (i, r) refl;
         columns = f.put;

@@ -1,15 +1,17 @@
 -- The log that is made row by row, against the rows that the script's way asks for. Assumes nothing.
 use Rattle.std.specs.Prelude.{Ok, Err}
-use Prim.Native.Nat.{ℕ, ◌+◌, ◌*◌, ◌≤◌, ◌<◌}
+use Prim.Native.Nat.{ℕ, ◌+◌, ◌*◌, ◌^◌, ◌≤◌, ◌<◌}
 use mathlib.Core.Path.{◌≡◌, refl, sym, ap, ap₂, subst, ◌∙◌}
-use mathlib.Core.Bool.{true}
+use mathlib.Core.Bool.{true, ◌&&◌}
+use lib.Dec.{leb}
+use Rattle.std.proofs.lemmas.Bool.{leb-true}
 use mathlib.Core.List.{List, [], ◌∷◌, ◌++◌, append_assoc}
 use native.Mathlib.Omega.{arith}
 use lib.ListN.{length, get_or, length-append}
 use Rattle.families.specs.Family.{code_size}
 use Rattle.isa.specs.declared.instructions.Instruction.{Instruction}
 use Rattle.isa.specs.Answers.{Decoded}
-use Rattle.families.proofs.Tests.{both_left}
+use Rattle.families.proofs.Tests.{both_left, both_right}
 use Rattle.refusals.specs.declared.refusals.Unreadable.{Unreadable}
 use Rattle.isa_fetch.specs.Fetch.{Fetches}
 use Rattle.isa_fetch.proofs.Places.{size_small}
@@ -22,7 +24,7 @@ use Rattle.machine_actions.specs.declared.actions.Action.{Action}
 use Rattle.script.specs.Script.{Script, fetch_at}
 use Rattle.script.specs.Input.{script_fits, ranges_fit, input_fits}
 use Rattle.script.proofs.Scripts.{fits_script, Reads}
-use Rattle.audit_verdict.specs.Auditor.{know_next, know_nothing, audit_of}
+use Rattle.audit_verdict.specs.Auditor.{Releasable, wait_length, know_next, know_nothing, audit_of}
 use Rattle.audit_verdict.specs.Witness.{first_row, row_after, rows_ended, rows_over, writes_over, place_of, max_shown}
 use Rattle.audit_verdict.specs.declared.verdicts.Knowledge.{Knowledge}
 use Rattle.audit_script.proofs.Walking.{poke_small}
@@ -30,9 +32,9 @@ use Rattle.audit_verdict.proofs.Cases.{never}
 use Rattle.audit_verdict.proofs.Judging.{Fine}
 use Rattle.audit_verdict.proofs.Walk.{Walk, here, further, actions_of, walk_forward, way_is}
 use Rattle.audit_verdict.proofs.Claim.{audit_walked}
-use Rattle.audit_verdict.proofs.WitnessLog.{StaysBelow, bounded_next, bounded_start, RowFits, first_fits, row_fits_after, reads_size}
-use Rattle.audit_witness.specs.Witnesses.{way}
-use Rattle.audit_witness.specs.Inside.{with_row, nothing_made, made_after, Extends, Follows}
+use Rattle.audit_verdict.proofs.WitnessLog.{StaysBelow, bounded_next, bounded_start, RowFits, wait_short, first_fits, row_fits_after, reads_size}
+use Rattle.audit_witness.specs.Witnesses.{lent_enough, way}
+use Rattle.audit_witness.specs.Inside.{has_entry, with_row, nothing_made, made_after, Extends, Follows}
 use Rattle.audit_witness.specs.declared.rows.Timeline.{Timeline}
 
 -- ---- the walk to the place, one instruction at a time
@@ -68,6 +70,18 @@ module _ {x : Script} {ranges : List ℕ} where
 
 less_room : {m n : ℕ} {lent : Log} → Room n lent → m ≤ n → Room m lent
 less_room r h = record { clocks = omega (arith, r.clocks); known = omega (arith, r.known); values = omega (arith, r.values) }
+
+room_in : (lent : Log) → lent_enough lent ≡ true → Room max_shown lent
+room_in lent e =
+    let c = leb max_shown (length lent.clocks) in
+    let k = leb max_shown (length lent.known) in
+    let v = leb max_shown (length lent.values) in
+    let later = both_right c (k && v) e in
+    record {
+      clocks = leb-true max_shown (length lent.clocks) (both_left c (k && v) e);
+      known = leb-true max_shown (length lent.known) (both_left k v later);
+      values = leb-true max_shown (length lent.values) (both_right k v later);
+    }
 
 -- at a place: the rows that were put, and those that the rest of the walk asks for, are the log; and what is counted stays small
 pub record Making (x : Script) (ranges : List ℕ) (place : ℕ) (way : List Action) (lent log : Log) (at : ℕ) (made : Timeline) : Type 0 where
@@ -112,22 +126,31 @@ making_first {l = l} w room h = record {
 -- the loop begins so, on its way to the verdict's place
 pub making_begins : (x : Script) (ranges : List ℕ) {place : ℕ} (lent : Log)
     → (input_fits x ranges ≡ true) × (place ≡ place_of (audit_of x ranges))
-    × (max_shown ≤ length lent.clocks) × (max_shown ≤ length lent.known) × (max_shown ≤ length lent.values)
+    × (lent_enough lent ≡ true)
     × ((i : ℕ) → get_or x.code i 0 < 256)
     → {made : Timeline} → made ≡ nothing_made → Making x ranges place (way x ranges) lent lent x.entry made
 making_begins x ranges lent needs nothing =
-    let w = (audit_walked x ranges needs.5 needs.0).walk in
+    let w = (audit_walked x ranges needs.3 needs.0).walk in
     let low = (fits_script x (both_left (script_fits x) (ranges_fit ranges) needs.0)).entry_low in
-    let room : Room max_shown lent = record { clocks = needs.2; known = needs.3; values = needs.4 } in
-    rw (needs.1, nothing, way_is (code_size x.family) w (omega arith)) (making_first w room low)
+    rw (needs.1, nothing, way_is (code_size x.family) w (omega arith)) (making_first w (room_in lent needs.2) low)
 
 module _ {x : Script} {ranges : List ℕ} {place : ℕ} {all : List Action} {lent log : Log} {at : ℕ} {made : Timeline}
     (g : Making x ranges place all lent log at made) where
   few : length g.before ≤ 170
   few = omega (arith, g.three_bytes, g.low)
 
-  pub same_lengths : SameLengths lent log
+  same_lengths : SameLengths lent log
   same_lengths = subst (SameLengths lent) (sym g.put) (rows_lengths lent g.before (less_room g.room (omega (arith, few))))
+
+  -- the present row has an entry
+  row_entry : has_entry log made.before
+  row_entry =
+      let s = same_lengths in
+      let r = g.room in (
+        omega (arith, g.counted, few, s.clocks, r.clocks),
+        omega (arith, g.counted, few, s.known, r.known),
+        omega (arith, g.counted, few, s.values, r.values),
+      )
 
   put_after : (rows : List Row) → length g.before + length rows ≤ max_shown → with_rows_at log made.before rows ≡ rows_into lent (g.before ++ rows)
   put_after rows h = ap₂ (λ (l : Log) (n : ℕ). with_rows_at l n rows) g.put g.counted ∙ rows_more lent g.before rows (less_room g.room h)
@@ -159,6 +182,21 @@ module _ {x : Script} {ranges : List ℕ} {place : ℕ} {all : List Action} {len
 
       pub inside : (0 < n) × (at + n ≤ 512)
       inside = let e = step.reads in (e.some, omega (arith, e.inside, size_small x.family))
+
+      -- what `extend` asks for
+      pub extend_fits : {did : Action} → did ≡ action → (has_entry log made.before) × (made.before < 1024) × (made.steps < 1024) × (made.writes < 1024)
+          × (made.row.clocks + wait_length did < 2 ^ 64) × (Releasable did)
+      extend_fits same =
+          let short = wait_short action step.reads.formed in
+          let b = g.bounded in
+          rw same (
+            row_entry,
+            omega (arith, g.counted, few),
+            omega (arith, g.few_steps, inside),
+            omega (arith, g.few_steps, g.few_writes, inside),
+            omega (arith, short, g.row_fits.most, b.clocks, b.count, inside),
+            step.fine.event,
+          )
 
       making_on : {new : Log} → new ≡ with_rows_at log made.before (rows_ended action made.row)
           → Making x ranges place all lent new (at + n) (made_after action made)

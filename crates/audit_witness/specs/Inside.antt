@@ -1,5 +1,5 @@
 -- The log as far as it is made. Private functions cite it; no public contract does.
-use Rattle.std.specs.Prelude.{ℕ, ◌+◌, ◌≡◌, List, length, set}
+use Rattle.std.specs.Prelude.{ℕ, ◌+◌, ◌≡◌, ◌<◌, List, length, set}
 use Rattle.event_log.specs.Log.{Log, log_of}
 use Rattle.event_log.specs.Rows.{rows_into, with_rows_at}
 use Rattle.event_log.specs.declared.row.Row.{Row}
@@ -7,6 +7,10 @@ use Rattle.machine_actions.specs.declared.actions.Action.{Action}
 use Rattle.audit_verdict.specs.Auditor.{poke_count}
 use Rattle.audit_verdict.specs.Witness.{first_row, row_after, rows_ended, rows_over, writes_over}
 use Rattle.audit_witness.specs.declared.rows.Timeline.{Timeline}
+
+-- each column has an entry at a place
+abbrev pub has_entry : Log → ℕ → Type 0
+has_entry lent at = (at < length lent.clocks) × (at < length lent.known) × (at < length lent.values)
 
 -- columns with a row put at a place
 abbrev pub with_row : Log → ℕ → Row → Log

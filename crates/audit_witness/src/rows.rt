@@ -3,8 +3,10 @@ ghost use Rattle.std.specs.Prelude.{◌≡◌, true, ◌+◌, ◌^◌, ◌<◌, 
 ghost use Rattle.event_log.specs.Log.{log_of};
 ghost use Rattle.audit_verdict.specs.Auditor.{Releasable, can_release, wait_length};
 ghost use Rattle.audit_verdict.specs.Witness.{event_row, row_after};
-ghost use Rattle.audit_witness.specs.Inside.{with_row, timeline_of, nothing_made, Extends};
+ghost use Rattle.audit_witness.specs.Columns.{columns_log, SameColumns};
+ghost use Rattle.audit_witness.specs.Inside.{has_entry, nothing_made, Extends};
 
+use crate::columns::Columns;
 use event_log::Row;
 use machine_actions::Action;
 
@@ -57,35 +59,12 @@ fn event_row(event: u8, value: u8) -> Row
     }
 }
 
-// Puts a row into the lent columns.
-pub(crate) fn put_row(
-    row: Row,
-    at: usize,
-    clocks: &mut [u64],
-    known: &mut [u32],
-    values: &mut [u32],
-)
-    requires { (at < length clocks.old) × (at < length known.old) × (at < length values.old) }
-    ensures { log_of clocks.new known.new values.new
-        ≡ with_row (log_of clocks.old known.old values.old) at row }
-{
-    clocks[at] = row.clocks;
-    known[at] = row.known;
-    values[at] = row.values;
-}
-
 // One instruction more: a wait makes the row longer, an ewait that it does not release begins the next.
-pub(crate) fn extend(
-    action: Action,
-    made: Timeline,
-    clocks: &mut [u64],
-    known: &mut [u32],
-    values: &mut [u32],
-) -> Timeline
-    requires { (made.before < length clocks.old) × (made.before < length known.old) × (made.before < length values.old)
+pub(crate) fn extend(action: Action, made: Timeline, columns: &mut Columns<'_>) -> Timeline
+    requires { (has_entry (columns_log columns.old) made.before)
         × (made.before < 1024) × (made.steps < 1024) × (made.writes < 1024) × (made.row.clocks + wait_length action < 2 ^ 64) × (Releasable action) }
-    ensures { Extends action made (log_of clocks.old known.old values.old)
-        (log_of clocks.new known.new values.new) result }
+    ensures extends { Extends action made (columns_log columns.old) (columns_log columns.new) result }
+    ensures lent { SameColumns columns.old columns.new }
 {
     let steps = made.steps + 1;
     match action {
@@ -98,7 +77,7 @@ pub(crate) fn extend(
             if log_ewaits::has_reading(made.row.known, made.row.values, event, value) {
                 Timeline { steps, ..made }
             } else {
-                put_row(made.row, made.before, clocks, known, values);
+                columns.put_row(made.row, made.before);
                 Timeline {
                     row: event_row(event, value),
                     before: made.before + 1,

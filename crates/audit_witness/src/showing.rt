@@ -5,10 +5,12 @@ ghost use Rattle.script.specs.Script.{lent_script};
 ghost use Rattle.script.specs.Input.{input_fits};
 ghost use Rattle.audit_verdict.specs.Auditor.{verdict_number, audit_of};
 ghost use Rattle.audit_verdict.specs.Witness.{max_shown, place_of};
+ghost use Rattle.audit_witness.specs.Columns.{columns_log, SameColumns};
 ghost use Rattle.audit_witness.specs.Inside.{Follows};
-ghost use Rattle.audit_witness.specs.Witnesses.{way, Witnesses};
+ghost use Rattle.audit_witness.specs.Witnesses.{lent_enough, way, Witnesses};
 
-use crate::rows::{Timeline, begin, extend, put_row};
+use crate::columns::Columns;
+use crate::rows::{Timeline, begin, extend};
 use audit_verdict::Verdict;
 use isa::CodeAddress;
 use refusals::{Fault, Unshowable};
@@ -30,23 +32,20 @@ pub struct Shown {
 pub fn witness(
     script: Script<'_>,
     ranges: &[u32],
-    clocks: &mut [u64],
-    known: &mut [u32],
-    values: &mut [u32],
+    columns: &mut Columns<'_>,
 ) -> Result<Shown, Unshowable>
-    ensures { Witnesses (lent_script script.entry) ranges.now
-        (log_of clocks.old known.old values.old) (log_of clocks.new known.new values.new) result }
+    ensures witnesses { Witnesses (lent_script script.entry) ranges.now (columns_log columns.old) (columns_log columns.new) result }
+    ensures lent { SameColumns columns.old columns.new }
 {
     are_bytes(script.ram.code);
     let verdict = audit_script::audit(script, ranges);
     if is_input(verdict) {
         return Err(Unshowable::Input);
     }
-    if clocks.len() < MAX_SHOWN || known.len() < MAX_SHOWN || values.len() < MAX_SHOWN {
+    if !columns.has_room() {
         return Err(Unshowable::Room);
     }
-    let place = place_of(verdict);
-    let made = follow(script, ranges, place, clocks, known, values);
+    let made = follow(script, ranges, place_of(verdict), columns);
     Ok(Shown {
         verdict,
         rows: made.before + 1,
@@ -82,16 +81,14 @@ fn follow(
     script: Script<'_>,
     ranges: &[u32],
     place: CodeAddress,
-    clocks: &mut [u64],
-    known: &mut [u32],
-    values: &mut [u32],
+    columns: &mut Columns<'_>,
 ) -> Timeline
     requires { (input_fits (lent_script script) ranges.now ≡ true)
         × (place.0 ≡ place_of (audit_of (lent_script script) ranges.now))
-        × (max_shown ≤ length clocks.old) × (max_shown ≤ length known.old) × (max_shown ≤ length values.old)
+        × (lent_enough (columns_log columns.old) ≡ true)
         × ((i : ℕ) → slice_index script.ram.code.now i < 256) }
-    ensures { Follows (way (lent_script script.entry) ranges.now)
-        (log_of clocks.old known.old values.old) (log_of clocks.new known.new values.new) result }
+    ensures follows { Follows (way (lent_script script.entry) ranges.now) (columns_log columns.old) (columns_log columns.new) result }
+    ensures lent { SameColumns columns.old columns.new }
 {
     let mut at = script.entry.0;
     let mut made = begin();
@@ -99,15 +96,9 @@ fn follow(
         let Ok((instruction, length)) = script.ram.fetch(CodeAddress(at)) else {
             break;
         };
-        made = extend(
-            machine_actions::action_of(instruction),
-            made,
-            clocks,
-            known,
-            values,
-        );
+        made = extend(machine_actions::action_of(instruction), made, columns);
         at += length;
     }
-    put_row(made.row, made.before, clocks, known, values);
+    columns.put_row(made.row, made.before);
     made
 }

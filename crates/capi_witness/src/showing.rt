@@ -5,7 +5,7 @@ ghost use Rattle.script.specs.Script.{script_of};
 ghost use Rattle.capi_witness.specs.Showing.{told_reply, shown_reply, unshown_reply, witness_reply, HwsqWitness};
 
 use audit_verdict::Verdict;
-use audit_witness::Shown;
+use audit_witness::{Columns, Shown};
 use isa::CodeAddress;
 use isa_fetch::CodeRam;
 use refusals::Unshowable;
@@ -53,7 +53,12 @@ pub extern "C" fn hwsq_witness<'a>(
         },
         entry: CodeAddress(entry),
     };
-    WitnessReply::from(audit_witness::witness(script, ranges, clocks, known, values))
+    let mut columns = Columns {
+        clocks,
+        known,
+        values,
+    };
+    WitnessReply::from(audit_witness::witness(script, ranges, &mut columns))
 }
 
 impl From<Result<Shown, Unshowable>> for WitnessReply {
