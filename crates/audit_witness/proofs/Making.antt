@@ -1,10 +1,9 @@
 -- The log that is made row by row, against the rows that the script's way asks for. Assumes nothing.
 use Rattle.std.specs.Prelude.{Ok, Err}
-use Prim.Native.Nat.{ℕ, ◌+◌, ◌*◌, ◌^◌, ◌≤◌, ◌<◌}
-use mathlib.Core.Path.{◌≡◌, refl, sym, ap, ap₂, subst, ◌∙◌}
-use mathlib.Core.Bool.{true, ◌&&◌}
-use lib.Dec.{leb}
 use Rattle.std.proofs.lemmas.Bool.{leb-true}
+use Prim.Native.Nat.{ℕ, ◌+◌, ◌*◌, ◌≤◌, ◌<◌}
+use mathlib.Core.Path.{◌≡◌, refl, sym, ap, ap₂, subst, ◌∙◌}
+use mathlib.Core.Bool.{true}
 use mathlib.Core.List.{List, [], ◌∷◌, ◌++◌, append_assoc}
 use native.Mathlib.Omega.{arith}
 use lib.ListN.{length, get_or, length-append}
@@ -24,7 +23,7 @@ use Rattle.machine_actions.specs.declared.actions.Action.{Action}
 use Rattle.script.specs.Script.{Script, fetch_at}
 use Rattle.script.specs.Input.{script_fits, ranges_fit, input_fits}
 use Rattle.script.proofs.Scripts.{fits_script, Reads}
-use Rattle.audit_verdict.specs.Auditor.{Releasable, wait_length, know_next, know_nothing, audit_of}
+use Rattle.audit_verdict.specs.Auditor.{know_next, know_nothing, audit_of}
 use Rattle.audit_verdict.specs.Witness.{first_row, row_after, rows_ended, rows_over, writes_over, place_of, max_shown}
 use Rattle.audit_verdict.specs.declared.verdicts.Knowledge.{Knowledge}
 use Rattle.audit_script.proofs.Walking.{poke_small}
@@ -34,7 +33,7 @@ use Rattle.audit_verdict.proofs.Walk.{Walk, here, further, actions_of, walk_forw
 use Rattle.audit_verdict.proofs.Claim.{audit_walked}
 use Rattle.audit_verdict.proofs.WitnessLog.{StaysBelow, bounded_next, bounded_start, RowFits, wait_short, first_fits, row_fits_after, reads_size}
 use Rattle.audit_witness.specs.Witnesses.{lent_enough, way}
-use Rattle.audit_witness.specs.Inside.{has_entry, with_row, nothing_made, made_after, Extends, Follows}
+use Rattle.audit_witness.specs.Inside.{has_entry, CanExtend, with_row, nothing_made, made_after, Extends, Follows}
 use Rattle.audit_witness.specs.declared.rows.Timeline.{Timeline}
 
 -- ---- the walk to the place, one instruction at a time
@@ -72,16 +71,11 @@ less_room : {m n : ℕ} {lent : Log} → Room n lent → m ≤ n → Room m lent
 less_room r h = record { clocks = omega (arith, r.clocks); known = omega (arith, r.known); values = omega (arith, r.values) }
 
 room_in : (lent : Log) → lent_enough lent ≡ true → Room max_shown lent
-room_in lent e =
-    let c = leb max_shown (length lent.clocks) in
-    let k = leb max_shown (length lent.known) in
-    let v = leb max_shown (length lent.values) in
-    let later = both_right c (k && v) e in
-    record {
-      clocks = leb-true max_shown (length lent.clocks) (both_left c (k && v) e);
-      known = leb-true max_shown (length lent.known) (both_left k v later);
-      values = leb-true max_shown (length lent.values) (both_right k v later);
-    }
+room_in lent e = let later = both_right _ _ e in record {
+  clocks = leb-true _ _ (both_left _ _ e);
+  known = leb-true _ _ (both_left _ _ later);
+  values = leb-true _ _ (both_right _ _ later);
+}
 
 -- at a place: the rows that were put, and those that the rest of the walk asks for, are the log; and what is counted stays small
 pub record Making (x : Script) (ranges : List ℕ) (place : ℕ) (way : List Action) (lent log : Log) (at : ℕ) (made : Timeline) : Type 0 where
@@ -184,8 +178,7 @@ module _ {x : Script} {ranges : List ℕ} {place : ℕ} {all : List Action} {len
       inside = let e = step.reads in (e.some, omega (arith, e.inside, size_small x.family))
 
       -- what `extend` asks for
-      pub extend_fits : {did : Action} → did ≡ action → (has_entry log made.before) × (made.before < 1024) × (made.steps < 1024) × (made.writes < 1024)
-          × (made.row.clocks + wait_length did < 2 ^ 64) × (Releasable did)
+      pub extend_fits : {did : Action} → did ≡ action → CanExtend did made log
       extend_fits same =
           let short = wait_short action step.reads.formed in
           let b = g.bounded in

@@ -1,10 +1,10 @@
 -- The log as far as it is made. Private functions cite it; no public contract does.
-use Rattle.std.specs.Prelude.{ℕ, ◌+◌, ◌≡◌, ◌<◌, List, length, set}
+use Rattle.std.specs.Prelude.{ℕ, ◌+◌, ◌^◌, ◌≡◌, ◌<◌, List, length, set}
 use Rattle.event_log.specs.Log.{Log, log_of}
 use Rattle.event_log.specs.Rows.{rows_into, with_rows_at}
 use Rattle.event_log.specs.declared.row.Row.{Row}
 use Rattle.machine_actions.specs.declared.actions.Action.{Action}
-use Rattle.audit_verdict.specs.Auditor.{poke_count}
+use Rattle.audit_verdict.specs.Auditor.{Releasable, wait_length, poke_count}
 use Rattle.audit_verdict.specs.Witness.{first_row, row_after, rows_ended, rows_over, writes_over}
 use Rattle.audit_witness.specs.declared.rows.Timeline.{Timeline}
 
@@ -18,6 +18,11 @@ with_row old at row = log_of (set old.clocks at row.clocks) (set old.known at ro
 
 abbrev pub timeline_of : Row → ℕ → ℕ → ℕ → Timeline
 timeline_of row before steps writes = record { row = row; before = before; steps = steps; writes = writes }
+
+-- one action more can be added: there is an entry for the present row, and the numbers stay in their types
+abbrev pub CanExtend : Action → Timeline → Log → Type 0
+CanExtend action made lent = (has_entry lent made.before)
+    × (made.before < 1024) × (made.steps < 1024) × (made.writes < 1024) × (made.row.clocks + wait_length action < 2 ^ 64) × (Releasable action)
 
 -- at the entry
 abbrev pub nothing_made : Timeline

@@ -4,7 +4,7 @@ ghost use Rattle.event_log.specs.Log.{log_of};
 ghost use Rattle.audit_verdict.specs.Auditor.{Releasable, can_release, wait_length};
 ghost use Rattle.audit_verdict.specs.Witness.{event_row, row_after};
 ghost use Rattle.audit_witness.specs.Columns.{columns_log, SameColumns};
-ghost use Rattle.audit_witness.specs.Inside.{has_entry, nothing_made, Extends};
+ghost use Rattle.audit_witness.specs.Inside.{nothing_made, CanExtend, Extends};
 
 use crate::columns::Columns;
 use event_log::Row;
@@ -61,8 +61,7 @@ fn event_row(event: u8, value: u8) -> Row
 
 // One instruction more: a wait makes the row longer, an ewait that it does not release begins the next.
 pub(crate) fn extend(action: Action, made: Timeline, columns: &mut Columns<'_>) -> Timeline
-    requires { (has_entry (columns_log columns.old) made.before)
-        × (made.before < 1024) × (made.steps < 1024) × (made.writes < 1024) × (made.row.clocks + wait_length action < 2 ^ 64) × (Releasable action) }
+    requires { CanExtend action made (columns_log columns.old) }
     ensures extends { Extends action made (columns_log columns.old) (columns_log columns.new) result }
     ensures lent { SameColumns columns.old columns.new }
 {
