@@ -1,7 +1,6 @@
 // The host's writes and reads.
 ghost use Rattle.std.specs.Prelude.{◌≡◌, not, ◌||◌};
-ghost use Rattle.machine_state.specs.Sequencer.{state_from};
-ghost use Rattle.host_registers.specs.Access.{access_of, after_write, is_abort, control_word, reading_of};
+ghost use Rattle.host_registers.specs.Access.{after_write, is_abort, control_word, reading_of};
 ghost use Rattle.host_registers.specs.Register.{InRoom};
 ghost use Rattle.host_registers.specs.Promises.{WritesInPlace, HostWrites, HostReads};
 ghost use Rattle.host_access.specs.Inside.{write_outcome};
@@ -10,50 +9,41 @@ use crate::addresses::{TRIGGER, is_writable, register_at};
 use crate::code::{code_word, upload};
 use crate::entries::entry_bits;
 use crate::status::{bit_if, status_word};
-use crate::triggers::{after_trigger, is_start};
-use host_registers::{Access, Register, Written};
+use crate::triggers::{is_start, trigger};
+use host_registers::{Access, Register};
 use isa::MmioAddress;
 use machine_execution::some_executes;
-use machine_state::{Sequencer, State, sequencer_of, state_from};
+use machine_state::State;
 use refusals::Inaccessible;
 
-// The sequencer after a word is written to a register that takes one; a code register's bytes are stored in place.
-#[tactic(auto, unfolding(host_registers::specs::Code::after_upload))]
-fn after_write(
-    mut sequencer: Sequencer,
-    register: Register,
-    word: u32,
-    code: &mut [u8; families::MAX_CODE],
-    marks: &mut [u8; families::MAX_CODE],
-) -> Sequencer
+// Writes a word to a register that takes one.
+fn store(state: &mut State, register: Register, word: u32)
     requires { InRoom register }
-    ensures { state_from result code.new marks.new
-        ≡ after_write (state_from sequencer code.old marks.old) register word }
+    ensures { state.new ≡ after_write state.old register word }
 {
     match register {
         Register::Control => {
-            sequencer.enable = word / 8 % 2 == 1;
-            sequencer.override_mode = word / 16 % 2 == 1;
+            state.enable = word / 8 % 2 == 1;
+            state.override_mode = word / 16 % 2 == 1;
         }
-        Register::EntryPoint => sequencer.entries = word,
-        Register::Trigger => return after_trigger(sequencer, word),
+        Register::EntryPoint => state.entries = word,
+        Register::Trigger => trigger(state, word),
         Register::Flags0 => {
-            sequencer.flags = machine_flags::flags_from_words(
+            state.flags = machine_flags::flags_from_words(
                 word,
-                machine_flags::flags_word_1(sequencer.flags),
+                machine_flags::flags_word_1(state.flags),
             );
         }
         Register::Flags1 => {
-            sequencer.flags = machine_flags::flags_from_words(
-                machine_flags::flags_word_0(sequencer.flags),
+            state.flags = machine_flags::flags_from_words(
+                machine_flags::flags_word_0(state.flags),
                 word,
             );
         }
-        Register::EntryPointHigh => sequencer.entries_high = entry_bits(word),
-        Register::Code(at) => upload(code, marks, at.0, word),
+        Register::EntryPointHigh => state.entries_high = entry_bits(word),
+        Register::Code(at) => upload(state, at.0, word),
         Register::Status | Register::Events | Register::Unlisted => {}
     }
-    sequencer
 }
 
 // While a slot executes, only an abort is taken.
@@ -80,41 +70,25 @@ fn write_outcome(family: u8, register: Register, taken: bool) -> Result<(), Inac
     Ok(())
 }
 
-// The host writes a word at an address of a sequencer whose code RAM is lent: tested and made in one call. A refused write
-// leaves all as it is.
+// The host writes a word at an address: tested and made in place, in one call. A refused write leaves all as it is.
 #[tactic(auto, using(host_registers::proofs::RegisterLaws::register_in_room))]
-pub fn write(
-    mut sequencer: Sequencer,
-    address: MmioAddress,
-    word: u32,
-    code: &mut [u8; families::MAX_CODE],
-    marks: &mut [u8; families::MAX_CODE],
-) -> Written
-    ensures { WritesInPlace (state_from sequencer code.old marks.old) address word
-        (access_of result code.new marks.new) }
+pub fn write(state: &mut State, address: MmioAddress, word: u32) -> Result<(), Inaccessible>
+    ensures { WritesInPlace state.old address word (record { state = state.new; outcome = result }) }
 {
-    let family = sequencer.family;
-    let register = register_at(family, address);
-    let executing = some_executes(family, sequencer.a.mode, sequencer.b.mode);
-    let outcome = write_outcome(family, register, is_taken(address, word, executing));
-    if outcome.is_ok() {
-        sequencer = after_write(sequencer, register, word, code, marks);
-    }
-    Written { sequencer, outcome }
+    let register = register_at(state.family, address);
+    let executing = some_executes(state.family, state.a.mode, state.b.mode);
+    write_outcome(state.family, register, is_taken(address, word, executing))?;
+    store(state, register, word);
+    Ok(())
 }
 
 // The state after the host writes a word at an address; a refused write leaves it as it is.
 #[tactic(auto, using(host_registers::proofs::AccessLaws::host_writes))]
-pub fn write_register(state: State, address: MmioAddress, word: u32) -> Access
+pub fn write_register(mut state: State, address: MmioAddress, word: u32) -> Access
     ensures { HostWrites state address word result }
 {
-    let mut code = state.code;
-    let mut marks = state.marks;
-    let written = write(sequencer_of(state), address, word, &mut code, &mut marks);
-    Access {
-        state: state_from(written.sequencer, code, marks),
-        outcome: written.outcome,
-    }
+    let outcome = write(&mut state, address, word);
+    Access { state, outcome }
 }
 
 fn control_word(enable: bool, override_mode: bool) -> u32

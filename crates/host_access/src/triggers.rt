@@ -1,11 +1,10 @@
 // Starting and aborting a script: what a word written to TRIGGER does.
-ghost use Rattle.std.specs.Prelude.{◌≡◌, cond, List, ℕ};
-ghost use Rattle.machine_state.specs.Sequencer.{state_from};
+ghost use Rattle.std.specs.Prelude.{◌≡◌, cond};
 ghost use Rattle.host_registers.specs.Trigger.{is_start, slot_named, started_at, aborted, after_trigger};
 
 use crate::entries::entry_point;
 use isa::CodeAddress;
-use machine_state::{Mode, Sequencer, Slot, SlotName};
+use machine_state::{Mode, Slot, SlotName, State};
 
 pub(crate) fn is_start(word: u32) -> bool
     ensures { result ≡ is_start word }
@@ -43,18 +42,17 @@ fn triggered(slot: Slot, word: u32, entry: usize) -> Slot
 }
 
 #[tactic(auto, unfolding(host_registers::specs::Trigger::after_trigger))]
-pub(crate) fn after_trigger(mut sequencer: Sequencer, word: u32) -> Sequencer
-    ensures { (code marks : List ℕ) → state_from result code marks ≡ after_trigger (state_from sequencer code marks) word }
+pub(crate) fn trigger(state: &mut State, word: u32)
+    ensures { state.new ≡ after_trigger state.old word }
 {
     let entry = entry_point(
-        sequencer.family,
-        sequencer.entries,
-        sequencer.entries_high,
+        state.family,
+        state.entries,
+        state.entries_high,
         word / 4 % 4,
     );
-    match slot_named(sequencer.family, word) {
-        SlotName::A => sequencer.a = triggered(sequencer.a, word, entry),
-        SlotName::B => sequencer.b = triggered(sequencer.b, word, entry),
+    match slot_named(state.family, word) {
+        SlotName::A => state.a = triggered(state.a, word, entry),
+        SlotName::B => state.b = triggered(state.b, word, entry),
     }
-    sequencer
 }

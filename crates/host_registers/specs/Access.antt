@@ -1,10 +1,9 @@
 -- A fresh state, and the host's writes and reads (01, "Host registers"; 004, "MMIO registers").
-use Rattle.std.specs.Prelude.{ℕ, ◌+◌, ◌/◌, ◌%◌, Bool, false, cond, not, ◌&&◌, ◌||◌, List, eqb, replicate, Result, Ok, Err}
+use Rattle.std.specs.Prelude.{ℕ, ◌+◌, ◌/◌, ◌%◌, Bool, false, cond, not, ◌&&◌, ◌||◌, eqb, replicate, Result, Ok, Err}
 use Rattle.families.specs.Family.{known_family, max_code}
 use Rattle.isa.specs.declared.addresses.MmioAddress.{MmioAddress}
 use Rattle.machine_flags.specs.Flags.{flags_word0, flags_word1, flags_from_words}
 use Rattle.machine_state.specs.Slot.{blank_slot, with_slot}
-use Rattle.machine_state.specs.Sequencer.{state_from}
 use Rattle.machine_state.specs.declared.slots.SlotName.{SlotName}
 use Rattle.machine_state.specs.declared.state.State.{State}
 use Rattle.host_registers.specs.Code.{after_upload, code_word}
@@ -14,7 +13,6 @@ use Rattle.host_registers.specs.Register.{trigger_at, register_at, is_writable}
 use Rattle.host_registers.specs.Status.{bit_if, status_word}
 use Rattle.host_registers.specs.Trigger.{is_start, after_trigger}
 use Rattle.host_registers.specs.declared.access.Access.{Access}
-use Rattle.host_registers.specs.declared.access.Written.{Written}
 use Rattle.refusals.specs.declared.refusals.Inaccessible.{Inaccessible}
 use Rattle.host_registers.specs.declared.registers.Register.{Register}
 
@@ -24,10 +22,6 @@ done s = record { state = s; outcome = Ok tt }
 -- a refusal leaves the state as it is
 abbrev pub refused : State → Inaccessible → Access
 refused s why = record { state = s; outcome = Err why }
-
--- a write whose code was stored in place, as an access
-abbrev pub access_of : Written → List ℕ → List ℕ → Access
-access_of w code marks = record { state = state_from w.sequencer code marks; outcome = w.outcome }
 
 -- every register 0, nothing uploaded, both slots blank
 unfoldable pub blank_state : ℕ → State

@@ -4,5 +4,5 @@
 mod access;
 mod registers;
 
-pub use access::{Access, Written};
+pub use access::Access;
 pub use registers::Register;

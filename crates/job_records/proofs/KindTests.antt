@@ -7,16 +7,14 @@ use Rattle.std.specs.Prelude.{Result, Ok, Err}
 use Rattle.refusals.specs.declared.refusals.Inaccessible.{Inaccessible}
 use native.Mathlib.Omega.{arith}
 use lib.Dec.{ltb, eqb}
-use lib.ListN.{length, drop, set, replicate}
+use lib.ListN.{length, drop, set}
 use borrow.Author.Tests.{ltb-false, leb-false, eqb-false, ne_eqb}
 use Rattle.families.specs.Family.{known_family}
 use Rattle.machine_execution.specs.Execution.{some_slot_executes}
 use Rattle.event_log.specs.Validity.{clocks_in_range}
-use Rattle.host_registers.specs.Access.{blank_state, write_of}
+use Rattle.host_registers.specs.Access.{fresh_of, write_of}
 use Rattle.host_registers.specs.Promises.{outcome_number, Unmoved, WritesInPlace}
 use Rattle.host_registers.specs.declared.access.Access.{Access}
-use Rattle.machine_state.specs.Sequencer.{sequencer_of, state_from}
-use Rattle.machine_state.specs.declared.sequencer.Sequencer.{Sequencer}
 use Rattle.machine_state.specs.declared.state.State.{State}
 use Rattle.job_records.specs.Inside.{Tested, shape_number, unless_refused, write_tests, StateStored}
 use Rattle.job_records.specs.Job.{state_after, bounds_after, column_after}
@@ -213,10 +211,10 @@ pub range_stored : (rest bounds : List ℕ) (n : ℕ) {first last : ℕ} → byt
 unfolding bounds_after
 range_stored rest bounds n is f l = rw (is, f, l)
 
-pub family_stored : (rest : List ℕ) (s : State) → byte_at rest 0 ≡ 4 → known_family (byte_at rest 1) ≡ true → {q : Sequencer}
-    → q ≡ sequencer_of (blank_state (byte_at rest 1)) → state_from q (replicate 512 0) (replicate 512 0) ≡ state_after (byte_at rest 0) rest s
-unfolding state_after blank_state
-family_stored rest s is known e = rw (e, is, known)
+pub family_stored : (rest : List ℕ) (s : State) → byte_at rest 0 ≡ 4 → {fresh : Access} → fresh ≡ fresh_of (byte_at rest 1)
+    → fresh.state ≡ state_after (byte_at rest 0) rest s
+unfolding state_after
+family_stored rest s is e = rw (e, is)
 
 -- a refused write leaves the state as it is
 unmoved_as : (s t : State) (outcome : Result Unit Inaccessible) → Unmoved s t outcome → (outcome_number outcome ≡ 0 → ⊥) → t ≡ s

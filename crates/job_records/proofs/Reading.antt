@@ -61,8 +61,8 @@ module _ (bytes : List ℕ) (at : ℕ) (j : Job) (x : JobRead) where
   read_end (suc g) h l e z r = simp (eq-eqb number_at 0 e, eq-eqb (byte_at rest_at 0) 0 z) at r
 
   -- either, where reading stops
-  pub read_stop : (number f : ℕ) → at ≤ length bytes → length bytes < at + f → number ≡ number_at → (number ≡ 0 → byte_at rest_at 0 ≡ 0) → read_in f bytes at
-      j ≡ x
+  pub read_stop : (number f : ℕ) → at ≤ length bytes → length bytes < at + f → number ≡ number_at → (number ≡ 0 → byte_at rest_at 0 ≡ 0)
+      → read_in f bytes at j ≡ x
       → read_at number at j ≡ x
   read_stop number f h l t ends r = by (eqb number 0) refl
     where

@@ -1,9 +1,8 @@
 // A record read: one call a kind makes its tests, in the order of the listing, and stores what it says. Where it is refused
 // nothing is stored.
-ghost use Rattle.std.specs.Prelude.{◌≡◌, ℕ, List};
+ghost use Rattle.std.specs.Prelude.{◌≡◌};
 ghost use Rattle.event_log.specs.Log.{log_of};
 ghost use Rattle.host_registers.specs.Promises.{outcome_number};
-ghost use Rattle.machine_state.specs.Sequencer.{state_from};
 ghost use Rattle.job_records.specs.Number.{refused_number};
 ghost use Rattle.job_records.specs.Records.{family, allowed_range, host_write, log_row, end};
 ghost use Rattle.job_records.specs.Refusals.{refusal_of};
@@ -14,7 +13,7 @@ use crate::kinds::RecordKind;
 use crate::listing::Record;
 use crate::refusal::Refusal;
 use isa::MmioAddress;
-use machine_state::Sequencer;
+use machine_state::State;
 use probe_captures::{Masks, after_row, row_known, row_values};
 use refusals::Inaccessible;
 use words::{byte_at, long_word, word_at};
@@ -32,24 +31,16 @@ fn write_outcome(outcome: Result<(), Inaccessible>) -> Result<(), Refusal>
 
 impl Record<'_> {
     // A family, from which a fresh state is made.
-    pub(crate) fn read_family(
-        self,
-        sequencer: &mut Sequencer,
-        code: &mut [u8; families::MAX_CODE],
-        marks: &mut [u8; families::MAX_CODE],
-    ) -> Result<(), Refusal>
+    pub(crate) fn read_family(self, state: &mut State) -> Result<(), Refusal>
         requires { byte_at self.rest.now 0 ≡ family }
-        ensures { StateStored self.entry.rest.now self.entry.counts (state_from sequencer.old code.old marks.old)
-            (state_from sequencer.new code.new marks.new) (refused_number result) }
+        ensures { StateStored self.entry.rest.now self.entry.counts state.old state.new (refused_number result) }
     {
         self.test_shape(RecordKind::Family)?;
         let family = byte_at(self.rest, 1);
         if !families::known_family(family) {
             return Err(Refusal::Family);
         }
-        *sequencer = host_fresh::fresh_sequencer(family);
-        *code = [0u8; families::MAX_CODE];
-        *marks = [0u8; families::MAX_CODE];
+        *state = host_fresh::fresh_state(family).state;
         Ok(())
     }
 
@@ -72,21 +63,13 @@ impl Record<'_> {
     }
 
     // A host write.
-    pub(crate) fn read_write(
-        self,
-        sequencer: &mut Sequencer,
-        code: &mut [u8; families::MAX_CODE],
-        marks: &mut [u8; families::MAX_CODE],
-    ) -> Result<(), Refusal>
+    pub(crate) fn read_write(self, state: &mut State) -> Result<(), Refusal>
         requires { byte_at self.rest.now 0 ≡ host_write }
-        ensures { StateStored self.entry.rest.now self.entry.counts (state_from sequencer.old code.old marks.old)
-            (state_from sequencer.new code.new marks.new) (refused_number result) }
+        ensures { StateStored self.entry.rest.now self.entry.counts state.old state.new (refused_number result) }
     {
         self.test_shape(RecordKind::HostWrite)?;
         let address = MmioAddress(word_at(self.rest, 1));
-        let written = host_access::write(*sequencer, address, word_at(self.rest, 5), code, marks);
-        *sequencer = written.sequencer;
-        write_outcome(written.outcome)
+        write_outcome(host_access::write(state, address, word_at(self.rest, 5)))
     }
 
     // A row is the next entry of each column. What was captured for it is used up.
@@ -116,9 +99,9 @@ impl Record<'_> {
     }
 
     // The end, where no capture is left and a slot must execute.
-    pub(crate) fn read_end(self, masks: Masks, sequencer: Sequencer) -> Result<(), Refusal>
+    pub(crate) fn read_end(self, masks: Masks, state: &State) -> Result<(), Refusal>
         requires { byte_at self.rest.now 0 ≡ end }
-        ensures { (code marks : List ℕ) → refused_number result ≡ refusal_of self.entry.rest.now self.entry.counts masks (state_from sequencer code marks) }
+        ensures { refused_number result ≡ refusal_of self.entry.rest.now self.entry.counts masks state.now }
     {
         self.test_shape(RecordKind::End)?;
         if masks.captured != 0 {
@@ -127,7 +110,7 @@ impl Record<'_> {
         if 1 < self.rest.len() {
             return Err(Refusal::BytesAfter);
         }
-        if !machine_execution::some_executes(sequencer.family, sequencer.a.mode, sequencer.b.mode) {
+        if !machine_execution::some_executes(state.family, state.a.mode, state.b.mode) {
             return Err(Refusal::Idle);
         }
         Ok(())

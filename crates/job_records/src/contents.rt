@@ -1,6 +1,6 @@
 // What the records read so far say.
 ghost use Rattle.std.specs.Prelude.{◌≡◌};
-ghost use Rattle.job_records.specs.Job.{CountsFit, empty_job};
+ghost use Rattle.job_records.specs.Job.{CountsFit, no_counts, empty_job};
 ghost use Rattle.job_records.specs.Job.{counted as Job·counted};
 ghost use Rattle.job_records.specs.Kinds.{byte_of};
 
@@ -9,7 +9,7 @@ use machine_state::State;
 use probe_captures::{Probes, no_probes};
 
 // How many records of each kind were read, and the rank of the last one, if there was one.
-#[derive(Clone, Copy, Default)]
+#[derive(Clone, Copy)]
 pub struct Counts {
     pub rank: Option<u8>,
     pub families: usize,
@@ -66,12 +66,24 @@ pub(crate) fn counted(kind: RecordKind, counts: Counts) -> Counts
     }
 }
 
+pub(crate) fn no_counts() -> Counts
+    ensures { result ≡ no_counts }
+{
+    Counts {
+        rank: None,
+        families: 0,
+        ranges: 0,
+        writes: 0,
+        rows: 0,
+    }
+}
+
 // Nothing read, and no family yet.
 pub(crate) fn empty_job() -> Job
     ensures { result ≡ empty_job }
 {
     Job {
-        counts: Counts::default(),
+        counts: no_counts(),
         bounds: [0u32; 128],
         state: host_fresh::fresh_state(0).state,
         clocks: [0u64; 1024],

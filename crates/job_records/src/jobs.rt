@@ -3,11 +3,10 @@ ghost use Rattle.std.specs.Prelude.{◌≡◌, ◌≤◌, length};
 ghost use Rattle.job_records.specs.Reader.{max_bytes, told, JobReads};
 ghost use Rattle.job_records.specs.Inside.{RecordsRead};
 
-use crate::contents::{Counts, Job, counted, empty_job};
+use crate::contents::{Job, counted, empty_job, no_counts};
 use crate::kinds::{RecordKind, kind_of};
 use crate::listing::Record;
 use crate::refusal::Refusal;
-use machine_state::state_from;
 use probe_captures::{Probes, no_probes};
 use words::byte_at;
 
@@ -43,19 +42,16 @@ fn read_records(bytes: &[u8]) -> JobRead
     ensures { RecordsRead bytes.now (told result) }
 {
     let mut at = 0;
-    let mut counts = Counts::default();
+    let mut counts = no_counts();
     let mut bounds = [0u32; 128];
-    let mut sequencer = host_fresh::fresh_sequencer(0);
-    let mut code = [0u8; families::MAX_CODE];
-    let mut marks = [0u8; families::MAX_CODE];
+    let mut state = host_fresh::fresh_state(0).state;
     let mut clocks = [0u64; 1024];
     let mut known = [0u32; 1024];
     let mut values = [0u32; 1024];
-    let Probes {
-        mut masks,
-        mut gates,
-        mut extents,
-    } = no_probes();
+    let none = no_probes();
+    let mut masks = none.masks;
+    let mut gates = none.gates;
+    let mut extents = none.extents;
     let outcome = loop {
         let record = Record {
             rest: &bytes[at..],
@@ -65,9 +61,9 @@ fn read_records(bytes: &[u8]) -> JobRead
             break Err(Refusal::Unknown);
         };
         let outcome = match kind {
-            RecordKind::Family => record.read_family(&mut sequencer, &mut code, &mut marks),
+            RecordKind::Family => record.read_family(&mut state),
             RecordKind::Range => record.read_range(&mut bounds),
-            RecordKind::HostWrite => record.read_write(&mut sequencer, &mut code, &mut marks),
+            RecordKind::HostWrite => record.read_write(&mut state),
             RecordKind::Gate => {
                 let event = record.event();
                 record.read_gate(&mut masks, &mut gates[event])
@@ -77,7 +73,7 @@ fn read_records(bytes: &[u8]) -> JobRead
                 record.read_capture(&mut masks, gates[event], &mut extents[event])
             }
             RecordKind::Row => record.read_row(&mut masks, &mut clocks, &mut known, &mut values),
-            RecordKind::End => break record.read_end(masks, sequencer),
+            RecordKind::End => break record.read_end(masks, &state),
         };
         if outcome.is_err() {
             break outcome;
@@ -88,7 +84,7 @@ fn read_records(bytes: &[u8]) -> JobRead
     let job = Job {
         counts,
         bounds,
-        state: state_from(sequencer, code, marks),
+        state,
         clocks,
         known,
         values,

@@ -7,17 +7,15 @@ use mathlib.Core.List.{List}
 use native.Mathlib.Omega.{arith}
 use borrow.Author.Tests.{eqb-false}
 use lib.ListN.{length, take, drop, replicate, length-drop}
-use Rattle.host_registers.specs.Access.{blank_state}
+use Rattle.host_registers.specs.declared.access.Access.{Access}
 use Rattle.event_log.specs.Log.{log_of}
-use Rattle.machine_state.specs.Sequencer.{state_from}
-use Rattle.machine_state.specs.declared.sequencer.Sequencer.{Sequencer}
 use Rattle.machine_state.specs.declared.state.State.{State}
 use Rattle.words.specs.Numbers.{byte_at}
 use Rattle.job_records.specs.Inside.{RecordsRead}
 use Rattle.job_records.specs.Kinds.{byte_of}
 use Rattle.job_records.specs.Number.{refusal_number, refused_number}
 use Rattle.job_records.specs.Records.{kind_of}
-use Rattle.job_records.specs.Job.{no_counts, counted, empty_job, after_record}
+use Rattle.job_records.specs.Job.{counted, empty_job, after_record}
 use Rattle.job_records.specs.Reader.{max_bytes, CountsWithin, read_at, read_in}
 use Rattle.job_records.specs.declared.contents.Counts.{Counts}
 use Rattle.job_records.specs.declared.contents.Job.{Job}
@@ -35,7 +33,6 @@ use Rattle.job_records.proofs.Reading.{StateKind, storeless, Reached, row_reache
 use Rattle.job_records.proofs.Reading.{end_reached, none_reached}
 use Rattle.job_records.proofs.Starting.{started}
 use Rattle.job_records.proofs.jobs.read_records.Invariants.{Inv, from_start, probes_of, job_of}
-use Rattle.job_records.proofs.jobs.read_records.Goals.{in_default, in-Ok+in-End, in-Ok+then-is_err}
 use Rattle.job_records.proofs.jobs.read_records.Goals.{in-Family, in-Range, in-HostWrite, in-Gate, in-Capture, in-Row}
 use Rattle.job_records.proofs.jobs.read_records.Goals as goal
 
@@ -66,23 +63,15 @@ refused_none : (o : Result Unit Refusal) → is_err o ≡ false → refused_numb
 refused_none (Ok done) e = refl
 refused_none (Err why) e = absurd (false≢true (sym e))
 
--- the same of variables that are equal, and of the bytes as they are lent
+-- the same of variables that are equal, and of the bytes as they are lent; and the record is no end
 module _ {given rest : List ℕ} {j : Job} (same : given ≡ rest) where
-  carried : {b b' : List ℕ} {q q' : Sequencer} {c c' m m' k k' n n' v v' : List ℕ} {e e' : Masks} {g g' : List EventGate} {x x' : List Extent}
-      {o o' : Result Unit Refusal}
-      → b ≡ b' → q ≡ q' → c ≡ c' → m ≡ m' → k ≡ k' → n ≡ n' → v ≡ v' → e ≡ e' → g ≡ g' → x ≡ x' → o ≡ o'
-      → Reached given j (refused_number o') (job_of j.counts b' (state_from q' c' m') (log_of k' n' v') (probes_of e' g' x'))
-      → Reached rest j (refused_number o) (job_of j.counts b (state_from q c m) (log_of k n v) (probes_of e g x))
-  carried b q c m k n v e g x o r = rw (b, q, c, m, k, n, v, e, g, x, o, ← same) r
-
-  -- and the record is no end
-  turned : {b b' : List ℕ} {q q' : Sequencer} {c c' m m' k k' n n' v v' : List ℕ} {e e' : Masks} {g g' : List EventGate} {x x' : List Extent}
+  turned : {b b' : List ℕ} {s s' : State} {k k' n n' v v' : List ℕ} {e e' : Masks} {g g' : List EventGate} {x x' : List Extent}
       {o o' : Result Unit Refusal} {kind : ℕ}
-      → b ≡ b' → q ≡ q' → c ≡ c' → m ≡ m' → k ≡ k' → n ≡ n' → v ≡ v' → e ≡ e' → g ≡ g' → x ≡ x' → o ≡ o' → byte_at given 0 ≡ kind → 0 < kind
-      → Reached given j (refused_number o') (job_of j.counts b' (state_from q' c' m') (log_of k' n' v') (probes_of e' g' x'))
-      → Reached rest j (refused_number o) (job_of j.counts b (state_from q c m) (log_of k n v) (probes_of e g x)) × (byte_at rest 0 ≡ 0 → ⊥)
-  turned b q c m k n v e g x o is some r =
-      (carried b q c m k n v e g x o r, λ z. let never : ⊥ = omega (arith, is, some, ap (λ (r : List ℕ). byte_at r 0) same, z) in never)
+      → b ≡ b' → s ≡ s' → k ≡ k' → n ≡ n' → v ≡ v' → e ≡ e' → g ≡ g' → x ≡ x' → o ≡ o' → byte_at given 0 ≡ kind → 0 < kind
+      → Reached given j (refused_number o') (job_of j.counts b' s' (log_of k' n' v') (probes_of e' g' x'))
+      → Reached rest j (refused_number o) (job_of j.counts b s (log_of k n v) (probes_of e g x)) × (byte_at rest 0 ≡ 0 → ⊥)
+  turned b s k n v e g x o is some r =
+      (rw (b, s, k, n, v, e, g, x, o, ← same) r, λ z. let never : ⊥ = omega (arith, is, some, ap (λ (r : List ℕ). byte_at r 0) same, z) in never)
 
 -- what is promised where reading stops
 stops : (input : List ℕ) (at : ℕ) (job : Job) (number : ℕ) {after : Job} → Inv input at job → length input ≤ max_bytes
@@ -92,8 +81,8 @@ stops input at job number inv short reached ends =
     let kept = reached.kept ends in
     let fuel = inv.3 in
     let within : CountsWithin max_bytes job.probes = λ event. omega (arith, inv.2 event, inv.0, short) in
-    let passed : number ≡ 0 → Clear rest job.counts job.probes.masks job.state = λ z. clear rest job.counts job.probes.masks job.state
-    (sym reached.tested ∙ z) in
+    let passed : number ≡ 0 → Clear rest job.counts job.probes.masks job.state = λ z. clear rest job.counts job.probes.masks job.state (sym reached.tested
+    ∙ z) in
     subst (λ (j : Job). RecordsRead input (read_at number at j)) (sym kept) (record {
       answered = read_stop input at job (from_start input) number fuel.0 inv.0 fuel.1 reached.tested ends fuel.2;
       sound = going_sound job inv.1 within;
@@ -120,14 +109,13 @@ goes_on input at job {after} {number} {body} {more} inv none reached on body_is 
     )
 
 pub loop-kind-init : goal.loop-kind-init
-unfolding blank_state empty_job
+unfolding empty_job
 loop-kind-init c =
     let bytes = c.args.bytes.now in
-    let probes = c.no_probes.result in
-    let none : c.default-counts.result ≡ no_counts = search rules in
-    let e : job_of c.default-counts.result (replicate 128 0) (state_from c.fresh_sequencer-sequencer.result (replicate 512 0) (replicate 512 0))
+    let probes = c.no_probes-none.result in
+    let e : job_of c.no_counts-counts.result (replicate 128 0) c.fresh_state.result.state
     (log_of (replicate 1024 0) (replicate 1024 0) (replicate 1024 0)) (probes_of probes.masks probes.gates probes.extents)
-    ≡ empty_job = simp (none, c.fresh_sequencer-sequencer.ensures, c.no_probes.ensures) in (
+    ≡ empty_job = simp (c.no_counts-counts.ensures, ap (λ (a : Access). a.state) c.fresh_state.ensures.answered, c.no_probes-none.ensures) in (
       search rules,
       subst Going (sym e) going_empty,
       subst (λ (j : Job). CountsWithin 0 j.probes) (sym e) (counts_empty 0),
@@ -141,40 +129,43 @@ loop-kind-preserved c =
     let rest : List ℕ = drop at input in
     let lent : List ℕ = take (length input - at) rest in
     let same = from input at in
-    let job : Job = job_of c.loop-kind.counts c.loop-kind.bounds (state_from c.loop-kind.sequencer c.loop-kind.code c.loop-kind.marks)
+    let job : Job = job_of c.loop-kind.counts c.loop-kind.bounds c.loop-kind.state
     (log_of c.loop-kind.clocks c.loop-kind.known c.loop-kind.values) (probes_of c.loop-kind.masks c.loop-kind.gates c.loop-kind.extents) in
     let m = c.match-kind in
-    let after : Job = job_of c.loop-kind.counts m.bounds (state_from m.sequencer m.code m.marks) (log_of m.clocks m.known m.values)
+    let after : Job = job_of c.loop-kind.counts m.bounds m.state (log_of m.clocks m.known m.values)
     (probes_of m.masks m.gates m.extents) in
     let size = c.loop-kind.invariant.1.size in
     let is = sym (c.in-Ok.ensures ∙ c.byte_at.ensures) in
     let turn : Reached rest job (refused_number m.outcome) after × (byte_at rest 0 ≡ 0 → ⊥) =
     elim m.branch [
-      | in-Family w ↦ turned same w.bounds-is w.sequencer-is w.code-is w.marks-is w.clocks-is w.known-is w.values-is w.masks-is w.gates-is w.extents-is
+      | in-Family w ↦ turned same w.bounds-is w.state-is w.clocks-is w.known-is w.values-is w.masks-is w.gates-is w.extents-is
           w.outcome-is
           (is ∙ ap byte_of w.in-Family.is) (omega arith)
           (state_reached lent job _ 4 (is ∙ ap byte_of w.in-Family.is) (omega arith) of_state_4 (w.read_family-outcome.ensures.tested job.probes.masks)
           w.read_family-outcome.ensures.state)
-      | in-Range w ↦ turned same w.bounds-is w.sequencer-is w.code-is w.marks-is w.clocks-is w.known-is w.values-is w.masks-is w.gates-is w.extents-is
+      | in-Range w ↦ turned same w.bounds-is w.state-is w.clocks-is w.known-is w.values-is w.masks-is w.gates-is w.extents-is
           w.outcome-is
           (is ∙ ap byte_of w.in-Range.is) (omega arith)
           (range_reached lent job _ (is ∙ ap byte_of w.in-Range.is) w.read_range-outcome.ensures)
-      | in-HostWrite w ↦ turned same w.bounds-is w.sequencer-is w.code-is w.marks-is w.clocks-is w.known-is w.values-is w.masks-is w.gates-is w.extents-is
+      | in-HostWrite w ↦ turned same w.bounds-is w.state-is w.clocks-is w.known-is w.values-is w.masks-is w.gates-is w.extents-is
           w.outcome-is
           (is ∙ ap byte_of w.in-HostWrite.is) (omega arith)
           (state_reached lent job _ 2 (is ∙ ap byte_of w.in-HostWrite.is) (omega arith) of_state_2 (w.read_write-outcome.ensures.tested job.probes.masks)
           w.read_write-outcome.ensures.state)
-      | in-Gate w ↦ turned same w.bounds-is w.sequencer-is w.code-is w.marks-is w.clocks-is w.known-is w.values-is w.masks-is w.gates-is w.extents-is
+      | in-Gate w ↦ turned same w.bounds-is w.state-is w.clocks-is w.known-is w.values-is w.masks-is w.gates-is w.extents-is
           w.outcome-is
           (is ∙ ap byte_of w.in-Gate.is) (omega arith)
           (gate_reached lent job _ w.event-event.ensures.value (is ∙ ap byte_of w.in-Gate.is) _ w.read_gate-outcome.ensures)
-      | in-Capture w ↦ turned same w.bounds-is w.sequencer-is w.code-is w.marks-is w.clocks-is w.known-is w.values-is w.masks-is w.gates-is w.extents-is
+      | in-Capture w ↦ turned same w.bounds-is w.state-is w.clocks-is w.known-is w.values-is w.masks-is w.gates-is w.extents-is
           w.outcome-is
           (is ∙ ap byte_of w.in-Capture.is) (omega arith)
-          (capture_reached lent job _ w.event-event-in-Capture.ensures.value (is ∙ ap byte_of w.in-Capture.is)
-          (omega (arith, w.event-event-in-Capture.ensures.upper_bound, size.gates))
-          (omega (arith, w.event-event-in-Capture.ensures.upper_bound, size.extents)) _ _ w.read_capture-outcome.ensures)
-      | in-Row w ↦ turned same w.bounds-is w.sequencer-is w.code-is w.marks-is w.clocks-is w.known-is w.values-is w.masks-is w.gates-is w.extents-is
+          (capture_reached lent job _ w.event-event-in-Capture.ensures.value (is ∙ ap byte_of w.in-Capture.is) (omega
+          (arith, w.event-event-in-Capture.ensures.upper_bound, size.gates)) (omega (
+            arith,
+            w.event-event-in-Capture.ensures.upper_bound,
+            size.extents,
+          )) _ _ w.read_capture-outcome.ensures)
+      | in-Row w ↦ turned same w.bounds-is w.state-is w.clocks-is w.known-is w.values-is w.masks-is w.gates-is w.extents-is
           w.outcome-is
           (is ∙ ap byte_of w.in-Row.is) (omega arith)
           (row_reached lent job _ (is ∙ ap byte_of w.in-Row.is) w.read_row-outcome.ensures)
@@ -184,72 +175,82 @@ loop-kind-preserved c =
     (ap (λ (k : Kind). k.body) (c.kind_of.ensures.value ∙ ap (kind_of c.loop-kind.counts) kind))
     (c.counted-counts.ensures ∙ ap (λ (k : ℕ). counted k c.loop-kind.counts) kind)
 
-pub returns : goal.returns
-returns c =
+pub returns-in_default : goal.returns-in_default
+returns-in_default c =
     let input : List ℕ = c.args.bytes.now in
     let at = c.loop-kind.at in
     let rest : List ℕ = drop at input in
     let lent : List ℕ = take (length input - at) rest in
     let same = from input at in
-    let job : Job = job_of c.loop-kind.counts c.loop-kind.bounds (state_from c.loop-kind.sequencer c.loop-kind.code c.loop-kind.marks)
+    let job : Job = job_of c.loop-kind.counts c.loop-kind.bounds c.loop-kind.state
     (log_of c.loop-kind.clocks c.loop-kind.known c.loop-kind.values) (probes_of c.loop-kind.masks c.loop-kind.gates c.loop-kind.extents) in
-    let m = c.match-try_from in
-    let after : Job = job_of c.loop-kind.counts m.bounds (state_from m.sequencer m.code m.marks) (log_of m.clocks m.known m.values)
+    let unnamed = no_kind_above (subst (λ (n : ℕ). 6 < n) c.byte_at.ensures c.in_default.ensures) in
+    let r = none_reached lent job 21 (storeless unnamed) (no_kind lent c.loop-kind.counts unnamed c.loop-kind.masks job.state) in
+    stops input at job 21 c.loop-kind.invariant c.requires (subst (λ (b : List ℕ). Reached b job 21 job) same r)
+    (λ z. absurd (let never : ⊥ = omega (arith, z) in never))
+
+pub returns-in-End : goal.returns-in-End
+returns-in-End c =
+    let input : List ℕ = c.args.bytes.now in
+    let at = c.loop-kind.at in
+    let rest : List ℕ = drop at input in
+    let lent : List ℕ = take (length input - at) rest in
+    let same = from input at in
+    let job : Job = job_of c.loop-kind.counts c.loop-kind.bounds c.loop-kind.state
+    (log_of c.loop-kind.clocks c.loop-kind.known c.loop-kind.values) (probes_of c.loop-kind.masks c.loop-kind.gates c.loop-kind.extents) in
+    let is : byte_at lent 0 ≡ 0 = sym (c.in-Ok.ensures ∙ c.byte_at.ensures) ∙ ap byte_of c.in-End.is in
+    let number = refused_number c.read_end-outcome.result in
+    let r = end_reached lent job number is c.read_end-outcome.ensures in
+    stops input at job number c.loop-kind.invariant c.requires (subst (λ (b : List ℕ). Reached b job number job) same r)
+    (λ _. sym (ap (λ (b : List ℕ). byte_at b 0) same) ∙ is)
+
+pub returns-then-is_err : goal.returns-then-is_err
+returns-then-is_err c =
+    let input : List ℕ = c.args.bytes.now in
+    let at = c.loop-kind.at in
+    let rest : List ℕ = drop at input in
+    let lent : List ℕ = take (length input - at) rest in
+    let same = from input at in
+    let job : Job = job_of c.loop-kind.counts c.loop-kind.bounds c.loop-kind.state
+    (log_of c.loop-kind.clocks c.loop-kind.known c.loop-kind.values) (probes_of c.loop-kind.masks c.loop-kind.gates c.loop-kind.extents) in
+    let m = c.match-kind in
+    let after : Job = job_of c.loop-kind.counts m.bounds m.state (log_of m.clocks m.known m.values)
     (probes_of m.masks m.gates m.extents) in
     let size = c.loop-kind.invariant.1.size in
-    let number = refused_number m.outcome in
-    let stop : Reached rest job number after × (number ≡ 0 → byte_at rest 0 ≡ 0) =
+    let is = sym (c.in-Ok.ensures ∙ c.byte_at.ensures) in
+    let turn : Reached rest job (refused_number m.outcome) after × (byte_at rest 0 ≡ 0 → ⊥) =
     elim m.branch [
-      | in_default w ↦ let unnamed = no_kind_above (subst (λ (n : ℕ). 6 < n) c.byte_at.ensures w.in_default.ensures) in
-          let unknown : refused_number m.outcome ≡ 21 = ap refused_number w.outcome-is in (
-            carried same w.bounds-is w.sequencer-is w.code-is w.marks-is w.clocks-is w.known-is w.values-is w.masks-is w.gates-is w.extents-is w.outcome-is
-                (none_reached lent job 21 (storeless unnamed) (no_kind lent c.loop-kind.counts unnamed c.loop-kind.masks job.state)),
-            λ z. absurd (let never : ⊥ = omega (arith, unknown, z) in never),
-          )
-      | in-Ok+in-End w ↦ let is : byte_at lent 0 ≡ 0 = sym (w.in-Ok.ensures ∙ c.byte_at.ensures) ∙ ap byte_of w.in-End.is in (
-        carried same w.bounds-is w.sequencer-is w.code-is w.marks-is w.clocks-is w.known-is w.values-is w.masks-is w.gates-is w.extents-is w.outcome-is
-            (end_reached lent job _ is (w.read_end-outcome.ensures c.loop-kind.code c.loop-kind.marks)),
-        λ _. sym (ap (λ (r : List ℕ). byte_at r 0) same) ∙ is,
-      )
-      | in-Ok+then-is_err w ↦ let n = w.match-kind in
-          let is = sym (w.in-Ok.ensures ∙ c.byte_at.ensures) in
-          let turn : Reached rest job (refused_number n.outcome) (job_of c.loop-kind.counts n.bounds (state_from n.sequencer n.code n.marks)
-          (log_of n.clocks n.known n.values) (probes_of n.masks n.gates n.extents)) × (byte_at rest 0 ≡ 0 → ⊥) =
-          elim n.branch [
-            | in-Family w' ↦ turned same w'.bounds-is w'.sequencer-is w'.code-is w'.marks-is w'.clocks-is w'.known-is w'.values-is w'.masks-is w'.gates-is
-                w'.extents-is w'.outcome-is
-                (is ∙ ap byte_of w'.in-Family.is) (omega arith)
-                (state_reached lent job _ 4 (is ∙ ap byte_of w'.in-Family.is) (omega arith) of_state_4
-                (w'.read_family-outcome.ensures.tested job.probes.masks) w'.read_family-outcome.ensures.state)
-            | in-Range w' ↦ turned same w'.bounds-is w'.sequencer-is w'.code-is w'.marks-is w'.clocks-is w'.known-is w'.values-is w'.masks-is w'.gates-is
-                w'.extents-is w'.outcome-is
-                (is ∙ ap byte_of w'.in-Range.is) (omega arith)
-                (range_reached lent job _ (is ∙ ap byte_of w'.in-Range.is) w'.read_range-outcome.ensures)
-            | in-HostWrite w' ↦ turned same w'.bounds-is w'.sequencer-is w'.code-is w'.marks-is w'.clocks-is w'.known-is w'.values-is w'.masks-is w'.gates-is
-                w'.extents-is w'.outcome-is
-                (is ∙ ap byte_of w'.in-HostWrite.is) (omega arith)
-                (state_reached lent job _ 2 (is ∙ ap byte_of w'.in-HostWrite.is) (omega arith) of_state_2
-                (w'.read_write-outcome.ensures.tested job.probes.masks) w'.read_write-outcome.ensures.state)
-            | in-Gate w' ↦ turned same w'.bounds-is w'.sequencer-is w'.code-is w'.marks-is w'.clocks-is w'.known-is w'.values-is w'.masks-is w'.gates-is
-                w'.extents-is w'.outcome-is
-                (is ∙ ap byte_of w'.in-Gate.is) (omega arith)
-                (gate_reached lent job _ w'.event-event.ensures.value (is ∙ ap byte_of w'.in-Gate.is) _ w'.read_gate-outcome.ensures)
-            | in-Capture w' ↦ turned same w'.bounds-is w'.sequencer-is w'.code-is w'.marks-is w'.clocks-is w'.known-is w'.values-is w'.masks-is w'.gates-is
-                w'.extents-is w'.outcome-is
-                (is ∙ ap byte_of w'.in-Capture.is) (omega arith)
-                (capture_reached lent job _ w'.event-event-in-Capture.ensures.value (is ∙ ap byte_of w'.in-Capture.is)
-                (omega (arith, w'.event-event-in-Capture.ensures.upper_bound, size.gates))
-                (omega (arith, w'.event-event-in-Capture.ensures.upper_bound, size.extents)) _ _ w'.read_capture-outcome.ensures)
-            | in-Row w' ↦ turned same w'.bounds-is w'.sequencer-is w'.code-is w'.marks-is w'.clocks-is w'.known-is w'.values-is w'.masks-is w'.gates-is
-                w'.extents-is w'.outcome-is
-                (is ∙ ap byte_of w'.in-Row.is) (omega arith)
-                (row_reached lent job _ (is ∙ ap byte_of w'.in-Row.is) w'.read_row-outcome.ensures)
-          ] in (
-            carried refl w.bounds-is w.sequencer-is w.code-is w.marks-is w.clocks-is w.known-is w.values-is w.masks-is w.gates-is w.extents-is w.outcome-is
-                turn.0,
-            λ z. absurd (refused_some n.outcome (sym w.is_err.ensures.value ∙ w.if-is_err.true) (sym (ap refused_number w.outcome-is) ∙ z)),
-          )
+      | in-Family w ↦ turned same w.bounds-is w.state-is w.clocks-is w.known-is w.values-is w.masks-is w.gates-is
+          w.extents-is w.outcome-is
+          (is ∙ ap byte_of w.in-Family.is) (omega arith)
+          (state_reached lent job _ 4 (is ∙ ap byte_of w.in-Family.is) (omega arith) of_state_4
+          (w.read_family-outcome.ensures.tested job.probes.masks) w.read_family-outcome.ensures.state)
+      | in-Range w ↦ turned same w.bounds-is w.state-is w.clocks-is w.known-is w.values-is w.masks-is w.gates-is
+          w.extents-is w.outcome-is
+          (is ∙ ap byte_of w.in-Range.is) (omega arith)
+          (range_reached lent job _ (is ∙ ap byte_of w.in-Range.is) w.read_range-outcome.ensures)
+      | in-HostWrite w ↦ turned same w.bounds-is w.state-is w.clocks-is w.known-is w.values-is w.masks-is w.gates-is
+          w.extents-is w.outcome-is
+          (is ∙ ap byte_of w.in-HostWrite.is) (omega arith)
+          (state_reached lent job _ 2 (is ∙ ap byte_of w.in-HostWrite.is) (omega arith) of_state_2
+          (w.read_write-outcome.ensures.tested job.probes.masks) w.read_write-outcome.ensures.state)
+      | in-Gate w ↦ turned same w.bounds-is w.state-is w.clocks-is w.known-is w.values-is w.masks-is w.gates-is
+          w.extents-is w.outcome-is
+          (is ∙ ap byte_of w.in-Gate.is) (omega arith)
+          (gate_reached lent job _ w.event-event.ensures.value (is ∙ ap byte_of w.in-Gate.is) _ w.read_gate-outcome.ensures)
+      | in-Capture w ↦ turned same w.bounds-is w.state-is w.clocks-is w.known-is w.values-is w.masks-is w.gates-is
+          w.extents-is w.outcome-is
+          (is ∙ ap byte_of w.in-Capture.is) (omega arith)
+          (capture_reached lent job _ w.event-event-in-Capture.ensures.value (is ∙ ap byte_of w.in-Capture.is) (omega
+          (arith, w.event-event-in-Capture.ensures.upper_bound, size.gates)) (omega (
+            arith,
+            w.event-event-in-Capture.ensures.upper_bound,
+            size.extents,
+          )) _ _ w.read_capture-outcome.ensures)
+      | in-Row w ↦ turned same w.bounds-is w.state-is w.clocks-is w.known-is w.values-is w.masks-is w.gates-is
+          w.extents-is w.outcome-is
+          (is ∙ ap byte_of w.in-Row.is) (omega arith)
+          (row_reached lent job _ (is ∙ ap byte_of w.in-Row.is) w.read_row-outcome.ensures)
     ] in
-    subst (λ (s : State). RecordsRead input (read_at number at (job_of c.loop-kind.counts m.bounds s (log_of m.clocks m.known m.values)
-    (probes_of m.masks m.gates m.extents)))) (sym c.state_from.ensures)
-    (stops input at job number c.loop-kind.invariant c.requires stop.0 stop.1)
+    stops input at job (refused_number m.outcome) c.loop-kind.invariant c.requires turn.0
+    (λ z. absurd (refused_some m.outcome (sym c.is_err.ensures.value ∙ c.if-is_err.true) z))

@@ -3,7 +3,6 @@ use mathlib.Core.Path.{◌≡◌}
 use mathlib.Core.List.{List}
 use lib.ListN.{length}
 use Rattle.event_log.specs.Log.{Log, log_of}
-use Rattle.machine_state.specs.Sequencer.{state_from}
 use Rattle.machine_state.specs.declared.state.State.{State}
 use Rattle.job_records.specs.Job.{empty_job}
 use Rattle.job_records.specs.Reader.{CountsWithin, JobRead, read_in}
@@ -34,7 +33,7 @@ job_of counts bounds s log probes =
 
 abbrev pub invariant-loop-kind : goal.invariant-loop-kind
 invariant-loop-kind l =
-    Inv l.bytes l.at (job_of l.counts l.bounds (state_from l.sequencer l.code l.marks) (log_of l.clocks l.known l.values) (probes_of l.masks l.gates l.extents))
+    Inv l.bytes l.at (job_of l.counts l.bounds l.state (log_of l.clocks l.known l.values) (probes_of l.masks l.gates l.extents))
 
 abbrev pub decreases-loop-kind : goal.decreases-loop-kind
 decreases-loop-kind l = length l.bytes - l.at

@@ -1,13 +1,11 @@
 use mathlib.Core.Path.{sym}
 use Rattle.std.proofs.lemmas.Result.{err_from_is_err_and}
-use Rattle.machine_state.specs.Sequencer.{state_from}
-use Rattle.machine_state.specs.declared.state.State.{State}
 use Rattle.job_records.proofs.KindTests.{shape_told, unstored, write_read}
 use Rattle.job_records.proofs.listing.Record.read_write.Goals as goal
 
 pub returns-in_err-test_shape : goal.returns-in_err-test_shape
 returns-in_err-test_shape c =
-    let state : State = state_from c.args.sequencer.now c.args.code.now c.args.marks.now in
+    let state = c.args.state.now in
     let p = err_from_is_err_and c.from_residual.result c.from_residual.ensures.1 in
     let why = c.in_err-test_shape.field-0.0 in
     rw (p.1, p.2) (record {
@@ -17,5 +15,5 @@ returns-in_err-test_shape c =
 
 pub returns : goal.returns
 returns c =
-    write_read c.args.self.rest.now _ c.requires c.word_at.ensures c.word_at-2.ensures c.write-written.ensures c.write_outcome.ensures c.args.self.counts
+    write_read c.args.self.rest.now _ c.requires c.word_at.ensures c.word_at-2.ensures c.write.ensures c.write_outcome.ensures c.args.self.counts
     (sym c.in_ok-test_shape.ensures.number)
