@@ -10,7 +10,7 @@ use machine_slot::Effect;
 use machine_state::{SlotName, State};
 use machine_step::Stepped;
 
-// What a step did, as numbers.
+// What a step did, as the numbers that C is told.
 #[derive(Clone, Copy)]
 pub struct EffectNumbers {
     pub refusal: u8,
