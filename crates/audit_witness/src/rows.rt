@@ -1,7 +1,6 @@
 // The log as it is made, one instruction after the other.
-ghost use Rattle.std.specs.Prelude.{◌≡◌, true, ◌+◌, ◌^◌, ◌<◌, length};
-ghost use Rattle.event_log.specs.Log.{log_of};
-ghost use Rattle.audit_verdict.specs.Auditor.{Releasable, can_release, wait_length};
+ghost use Rattle.std.specs.Prelude.{◌≡◌, true, ◌+◌, ◌^◌, ◌<◌};
+ghost use Rattle.audit_verdict.specs.Auditor.{can_release};
 ghost use Rattle.audit_verdict.specs.Witness.{event_row, row_after};
 ghost use Rattle.audit_witness.specs.Columns.{columns_log, SameColumns};
 ghost use Rattle.audit_witness.specs.Inside.{nothing_made, CanExtend, Extends};

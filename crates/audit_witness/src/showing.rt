@@ -1,10 +1,9 @@
 // The verdict, and the script's way to its place, written down as a log.
-ghost use Rattle.std.specs.Prelude.{ℕ, ◌≡◌, true, ◌≤◌, ◌<◌, eqb, length, slice_index};
-ghost use Rattle.event_log.specs.Log.{log_of};
+ghost use Rattle.std.specs.Prelude.{ℕ, ◌≡◌, true, ◌<◌, eqb, slice_index};
 ghost use Rattle.script.specs.Script.{lent_script};
 ghost use Rattle.script.specs.Input.{input_fits};
 ghost use Rattle.audit_verdict.specs.Auditor.{verdict_number, audit_of};
-ghost use Rattle.audit_verdict.specs.Witness.{max_shown, place_of};
+ghost use Rattle.audit_verdict.specs.Witness.{place_of};
 ghost use Rattle.audit_witness.specs.Columns.{columns_log, SameColumns};
 ghost use Rattle.audit_witness.specs.Inside.{Follows};
 ghost use Rattle.audit_witness.specs.Witnesses.{lent_enough, way, Witnesses};
