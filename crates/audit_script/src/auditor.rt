@@ -51,9 +51,9 @@ fn walk(script: Script<'_>, ranges: &[u32]) -> Verdict
     let mut known = know_nothing();
     loop {
         let place = CodeAddress(at);
-        let (instruction, length) = match script.ram.fetch(place) {
-            Ok(found) => found,
-            Err(why) => return Verdict::Fault(fault_of(why), place),
+        let found = script.ram.fetch(place);
+        let Ok((instruction, length)) = found else {
+            return Verdict::Fault(fault_of(isa_fetch::reason_of(found)), place);
         };
         let action = machine_actions::action_of(instruction);
         match judge(script.ram.family, ranges, action, known) {

@@ -28,16 +28,21 @@ pub fn has_reading(known: u32, values: u32, event: u8, value: u8) -> bool
 pub fn event_wait(log: Log<'_>, at: Place, event: u8, value: u8) -> Released
     ensures { Ewaits (lent_log log.entry) at event value result }
 {
+    let mut row = at.row;
     let mut used = at.used;
     let mut passed: u64 = 0;
-    for row in at.row..log.clocks.len() {
+    let released = loop {
+        if log.clocks.len() <= row {
+            break Released::End(passed);
+        }
         let known = mask_at(log.known, row);
         let values = mask_at(log.values, row);
         if has_reading(known, values, event, value) {
-            return Released::At(Place { row, used }, passed);
+            break Released::At(Place { row, used }, passed);
         }
         passed = passed.wrapping_add(unused(log.clocks[row], used));
+        row += 1;
         used = 0;
-    }
-    Released::End(passed)
+    };
+    released
 }

@@ -12,7 +12,7 @@ returns-then-has_reading c =
     let v = c.loop-row in
     let log : Log = lent_log a.log in
     let reads : reads_at log a.event a.value v.row ≡ true = cc in
-    let here = in64_here log a.event a.value v.row v.used v.passed v.auto.passed-fits.fits c.loop-row-test.true reads in
+    let here = in64_here log a.event a.value v.row v.used v.passed v.auto.passed-fits.fits c.if-log-row.false reads in
     ewaits log a.at a.event a.value _ (sym here ∙ v.invariant)
 
 pub loop-row-preserved : goal.loop-row-preserved
@@ -21,12 +21,12 @@ loop-row-preserved c =
     let v = c.loop-row in
     let log : Log = lent_log a.log in
     let reads : reads_at log a.event a.value v.row ≡ false = cc in
-    rw c.unused-passed.ensures (sym (in64_next log a.event a.value v.row v.used v.passed c.loop-row-test.true reads) ∙ v.invariant)
+    rw c.unused-passed.ensures (sym (in64_next log a.event a.value v.row v.used v.passed c.if-log-row.false reads) ∙ v.invariant)
 
-pub returns : goal.returns
-returns c =
+pub returns-then-log-row : goal.returns-then-log-row
+returns-then-log-row c =
     let a = c.args in
     let v = c.loop-row in
     let log : Log = lent_log a.log in
-    let end = in64_end log a.event a.value v.row v.used v.passed v.auto.passed-fits.fits c.loop-row-test.false in
+    let end = in64_end log a.event a.value v.row v.used v.passed v.auto.passed-fits.fits c.if-log-row.true in
     ewaits log a.at a.event a.value _ (sym end ∙ v.invariant)
