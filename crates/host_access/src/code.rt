@@ -1,6 +1,6 @@
 // Code RAM as the host sees it: words of four bytes, the lowest byte first.
 ghost use Rattle.std.specs.Prelude.{◌≡◌, ◌+◌, ◌≤◌};
-ghost use Rattle.host_registers.specs.Code.{uploaded_byte, code_word, after_upload};
+ghost use Rattle.host_registers.specs.Code.{byte_in, code_word, after_upload};
 
 use machine_state::State;
 use words::word;
@@ -16,26 +16,25 @@ pub(crate) fn upload(state: &mut State, at: usize, word: u32)
 }
 
 // A byte that was uploaded, and 0 where none was.
-#[tactic(auto, unfolding(host_registers::specs::Code::uploaded_byte))]
-fn uploaded_byte(state: State, at: usize) -> u8
+fn uploaded_byte(code: &[u8; families::MAX_CODE], marks: &[u8; families::MAX_CODE], at: usize) -> u8
     requires { at + 1 ≤ 512 }
-    ensures { result ≡ uploaded_byte state at }
+    ensures { result ≡ byte_in code.now marks.now at }
 {
-    if state.marks[at] == 1 {
-        state.code[at]
-    } else {
-        0
-    }
+    if marks[at] == 1 { code[at] } else { 0 }
 }
 
+// Code and marks are copied here, so that a read of any other register copies neither.
+#[tactic(auto, unfolding(host_registers::specs::Code::uploaded_byte))]
 pub(crate) fn code_word(state: State, at: usize) -> u32
     requires { at + 4 ≤ 512 }
     ensures { result ≡ code_word state at }
 {
+    let code = state.code;
+    let marks = state.marks;
     word(
-        uploaded_byte(state, at),
-        uploaded_byte(state, at + 1),
-        uploaded_byte(state, at + 2),
-        uploaded_byte(state, at + 3),
+        uploaded_byte(&code, &marks, at),
+        uploaded_byte(&code, &marks, at + 1),
+        uploaded_byte(&code, &marks, at + 2),
+        uploaded_byte(&code, &marks, at + 3),
     )
 }
