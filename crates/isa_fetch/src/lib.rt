@@ -26,6 +26,7 @@ impl CodeRam<'_> {
 
     // The instruction at a place, and how many bytes it takes. The first byte is tested before its operands, and whether a
     // byte lies in the RAM before whether it was uploaded.
+    #[inline(always)]
     pub fn fetch(self, place: CodeAddress) -> Result<(Instruction, usize), Unreadable>
         ensures { Fetches self.entry.family self.entry.code.now self.entry.marks.now place.0 result }
     {

@@ -10,7 +10,9 @@ use isa::{Instruction, MmioAddress, Opcode};
 use refusals::Unreadable;
 use words::byte_at;
 
-// The instruction at the start of bytes.
+// The instruction at the start of bytes. Inlined, as all below it: each caller's loop has the whole reader then, and an
+// instruction does not come back through memory.
+#[inline(always)]
 pub fn decode(family: u8, bytes: &[u8]) -> Result<(Instruction, usize), Unreadable>
     ensures { Reads family bytes.now result }
 {
@@ -28,29 +30,32 @@ pub fn decode(family: u8, bytes: &[u8]) -> Result<(Instruction, usize), Unreadab
 }
 
 // The instruction with this opcode, whose operands follow the first byte.
+#[inline(always)]
 fn read_as(opcode: Opcode, bytes: &[u8]) -> Result<(Instruction, usize), Unreadable>
     ensures { result ≡ read_as opcode bytes.now }
 {
     let first = byte_at(bytes, 0);
-    match opcode {
+    // the answer is put together once, after the match: in each arm it would be packed into a word and taken apart again
+    let instruction = match opcode {
         Opcode::Wait => {
             let length = first % 4;
             let shift = first / 4;
-            Ok((Instruction::Wait { length, shift }, 1))
+            Instruction::Wait { length, shift }
         }
-        Opcode::AddrLo => Ok((Instruction::AddrLo(operand16(bytes)), 3)),
-        Opcode::DataLo => Ok((Instruction::DataLo(operand16(bytes)), 3)),
+        Opcode::AddrLo => Instruction::AddrLo(operand16(bytes)),
+        Opcode::DataLo => Instruction::DataLo(operand16(bytes)),
         Opcode::Ewait => {
             let event = byte_at(bytes, 1);
             let value = byte_at(bytes, 2);
-            Ok((Instruction::Ewait { event, value }, 3))
+            Instruction::Ewait { event, value }
         }
-        Opcode::Exit => Ok((Instruction::Exit, 1)),
-        Opcode::Unset => Ok((Instruction::Unset(first % 32), 1)),
-        Opcode::Set1 => Ok((Instruction::Set1(first % 32), 1)),
-        Opcode::Set0 => Ok((Instruction::Set0(first % 32), 1)),
-        Opcode::Addr => Ok((Instruction::Addr(MmioAddress(operand32(bytes))), 5)),
-        Opcode::Data => Ok((Instruction::Data(operand32(bytes)), 5)),
-        Opcode::Unknown => Err(Unreadable::Unknown),
-    }
+        Opcode::Exit => Instruction::Exit,
+        Opcode::Unset => Instruction::Unset(first % 32),
+        Opcode::Set1 => Instruction::Set1(first % 32),
+        Opcode::Set0 => Instruction::Set0(first % 32),
+        Opcode::Addr => Instruction::Addr(MmioAddress(operand32(bytes))),
+        Opcode::Data => Instruction::Data(operand32(bytes)),
+        Opcode::Unknown => return Err(Unreadable::Unknown),
+    };
+    Ok((instruction, size_of(opcode)))
 }

@@ -5,12 +5,14 @@ ghost use Rattle.isa.specs.Opcode.{later_only, opcode_at, size_of};
 use isa::Opcode;
 
 // An opcode that families 2 to 4 alone know.
+#[inline(always)]
 fn later_only(family: u8, opcode: Opcode) -> Opcode
     ensures { result ≡ later_only family opcode }
 {
     if 2 <= family { opcode } else { Opcode::Unknown }
 }
 
+#[inline(always)]
 pub(crate) fn opcode_at(family: u8, first: u8) -> Opcode
     ensures { result ≡ opcode_at family first }
 {
@@ -30,6 +32,7 @@ pub(crate) fn opcode_at(family: u8, first: u8) -> Opcode
 }
 
 // How many bytes an instruction takes, its first one included.
+#[inline(always)]
 pub(crate) fn size_of(opcode: Opcode) -> usize
     ensures { result ≡ size_of opcode }
 {

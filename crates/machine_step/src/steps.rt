@@ -5,16 +5,17 @@ ghost use Rattle.machine_step.specs.Step.{after_slot_step, advance_of};
 ghost use Rattle.machine_step.specs.Step.{unmoved as Step·unmoved};
 ghost use Rattle.event_log.specs.Log.{lent_log};
 ghost use Rattle.event_log.specs.Validity.{valid_log, valid_place};
+ghost use Rattle.isa_fetch.specs.Fetch.{Fetches};
 ghost use Rattle.machine_step.specs.Promises.{StepsOnce};
 
 use event_log::{Log, Place};
-use isa::CodeAddress;
+use isa::{CodeAddress, Instruction};
 use isa_fetch::CodeRam;
 use machine_actions::action_of;
 use machine_slot::{Effect, SlotStep, perform, unfetched};
 use machine_state::{Mode, SlotName, State, has_slot, is_running, slot_of, with_slot};
 use machine_time::elapse;
-use refusals::Unsteppable;
+use refusals::{Unreadable, Unsteppable};
 
 #[derive(Clone, Copy)]
 pub struct Stepped {
@@ -53,7 +54,7 @@ fn advance(state: State, name: SlotName, log: Log<'_>, at: Place) -> Stepped
         code: &state.code,
         marks: &state.marks,
     };
-    let found = ram.fetch(slot.ip);
+    let found = fetch(ram, slot.ip);
     let Ok((instruction, length)) = found else {
         let why = isa_fetch::reason_of(found);
         let next = isa_fetch::past_opcode(slot.ip);
@@ -65,6 +66,14 @@ fn advance(state: State, name: SlotName, log: Log<'_>, at: Place) -> Stepped
     let next = CodeAddress(slot.ip.0 + length);
     let step = perform(state.enable, slot, state.flags, action, next, elapsed);
     after_slot_step(state, name, step)
+}
+
+// The instruction at a place. Called and not inlined, so that the search through a log has the registers to itself.
+#[inline(never)]
+fn fetch(ram: CodeRam<'_>, place: CodeAddress) -> Result<(Instruction, usize), Unreadable>
+    ensures { Fetches ram.entry.family ram.entry.code.now ram.entry.marks.now place.0 result }
+{
+    ram.fetch(place)
 }
 
 fn can_run(family: u8, name: SlotName, mode: Mode) -> bool
