@@ -15,6 +15,10 @@ last_digit : (most n : ℕ) → n < 10 → decimal_in (suc most) n ≡ digit n �
 unfolding decimal_in
 last_digit most n h = rw (lt-ltb n 10 h)
 
+pub one_digit : (n : ℕ) → n < 10 → digit n ∷ [] ≡ decimal_text n
+unfolding decimal_text
+one_digit n h = sym (last_digit 19 n h)
+
 more_digits : (most n : ℕ) → 10 ≤ n → decimal_in (suc most) n ≡ decimal_in most (n / 10) ++ (digit (n % 10) ∷ [])
 unfolding decimal_in
 more_digits most n h = rw (le-ltb n 10 h)

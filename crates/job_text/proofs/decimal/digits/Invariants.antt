@@ -1,11 +1,10 @@
 use Rattle.std.proofs.Common.{◌≡◌, ◌<◌, ◌^◌, ◌++◌, length, drop}
 use Rattle.job_text.specs.Digits.{decimal_in, decimal_text}
-use Rattle.job_text.proofs.report.Report.decimal.Given as goal
+use Rattle.job_text.proofs.decimal.digits.Given as goal
 
--- nothing is put yet; behind the digits still to come, for which there is room, stand those that are made
+-- behind the digits still to come, for which there is room, stand those that are made
 abbrev pub invariant-loop-first : goal.invariant-loop-first
 invariant-loop-first l = record {
-  lent : l.self ≡ l.initial.self;
   text_size : length l.text ≡ length l.initial.text;
   to_come : 0 < l.first;
   room : l.rest < 10 ^ l.first;
