@@ -1,5 +1,5 @@
 use Rattle.std.proofs.Common.{◌≡◌, ◌∙◌, refl, rules, arith, append-nil}
-use Rattle.job_text.specs.Digits.{hex_in, hex_word}
+use Rattle.job_text.specs.Digits.{hex_word}
 use Rattle.job_text.proofs.PutLaws.{puts_as}
 use Rattle.job_text.proofs.ToldLaws.{told_as}
 use Rattle.job_text.proofs.HexLaws.{next_digit, end, eight, reads_back}
@@ -7,7 +7,7 @@ use Rattle.job_text.proofs.report.Report.hex.Goals as goal
 
 pub loop-place-init : goal.loop-place-init
 unfolding hex_word
-loop-place-init c = record { text_size = refl; made = append-nil (hex_in 8 c.args.n) }
+loop-place-init c = record { text_size = refl; made = append-nil (hex_word c.args.n) }
 
 pub loop-place-preserved : goal.loop-place-preserved
 loop-place-preserved c =
