@@ -23,6 +23,10 @@ more_digits : (most n : ℕ) → 10 ≤ n → decimal_in (suc most) n ≡ decima
 unfolding decimal_in
 more_digits most n h = rw (le-ltb n 10 h)
 
+pub two_digits : (n : ℕ) → 10 ≤ n → n < 100 → digit (n / 10) ∷ digit (n % 10) ∷ [] ≡ decimal_text n
+unfolding decimal_text
+two_digits n h k = sym (more_digits 19 n h ∙ ap (λ (front : List ℕ). front ++ (digit (n % 10) ∷ [])) (last_digit 18 (n / 10) (omega arith)))
+
 -- what holds of one digit, and of more, holds of all
 digits_elim : (P : List ℕ → Type 0) (most n : ℕ)
     → (n < 10 → P (digit n ∷ []))

@@ -36,13 +36,15 @@ impl Report<'_> {
         ensures puts { PutsDecimal self.old.out.now self.old.at n self.new.at self.new.out.now }
         ensures told { Told self.old (decimal_text n) self.new }
     {
-        // most numbers of a report have one digit
+        // most numbers of a report have one digit or two
         if n < 10 {
             self.bytes(&[b'0' + n as u8]);
-            return;
+        } else if n < 100 {
+            self.bytes(&[b'0' + (n / 10) as u8, b'0' + (n % 10) as u8]);
+        } else {
+            let mut text = [0u8; MAX_DIGITS];
+            let first = digits(n, &mut text);
+            self.bytes(&text[first..]);
         }
-        let mut text = [0u8; MAX_DIGITS];
-        let first = digits(n, &mut text);
-        self.bytes(&text[first..]);
     }
 }
