@@ -9,7 +9,9 @@ use lib.ListN.{length, drop, set, length-append}
 use lib.Dec.{ltb, lit<}
 use borrow.Author.Tests.{lt-ltb, le-ltb, ltb-true, ltb-false}
 use Rattle.job_text.proofs.Backwards.{less, stored}
+use Rattle.job_text.proofs.PutLaws.{puts_as}
 use Rattle.job_text.specs.Digits.{digit, decimal_in, decimal_text, read_on, DecimalText}
+use Rattle.job_text.specs.Put.{Puts, PutsDecimal}
 
 last_digit : (most n : ℕ) → n < 10 → decimal_in (suc most) n ≡ digit n ∷ []
 unfolding decimal_in
@@ -113,3 +115,7 @@ reads_back_in (suc most) n h =
 pub digits_of : (n : ℕ) → DecimalText n
 unfolding decimal_text
 digits_of n = record { reads_back = reads_back_in 20 n; within = within n; short = short n }
+
+-- a text that is a number's digits, put
+pub put_digits : (n : ℕ) {d : List ℕ} {at : ℕ} {t : List ℕ} {r : ℕ} {e : List ℕ} → t ≡ decimal_text n → Puts d at t r e → PutsDecimal d at n r e
+put_digits n same put = record { puts = puts_as _ _ _ (decimal_text n) _ _ same put; digits = digits_of n }
